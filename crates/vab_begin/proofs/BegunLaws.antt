@@ -356,6 +356,7 @@ begun_kept apart d size x dev idle for =
     (record {
       target = of.target;
       device = sym of.device;
+      groups = sym of.groups;
       no_stores = target_no_stores apart d size x dev for;
     }))
 

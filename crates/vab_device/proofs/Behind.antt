@@ -40,6 +40,7 @@ use Rattle.vab_device.specs.Reading.{IsOfImages, IsOfStores, IsOfWritten, IsOfPl
 use Rattle.vab_device.specs.Stores.{Wanted, Scanned, first_named, image_wanted, wanted_of, or_fewer}
 use Rattle.vab_device.specs.Stores.{scanned_named, sector_seen, sectors_seen}
 use Rattle.vab_device.proofs.CheckLaws.{bound}
+use Rattle.vab_device.proofs.InStores.{IsInStores, in_stores}
 
 -- ---- partitions
 
@@ -125,8 +126,8 @@ tables_behind size low g (slot ∷ slots) image ts le is =
 wanted_from : (may : Bool) (first low : ℕ) (name : List ℕ) (x : StatusImage)
     (p q : Option PartOfLayout) (ws : List (Result Wanted StartFault)) (s : ℕ)
     → low ≤ 4096 + first
-    → IsOfStores (image_wanted may first name x p q ∷ ws) s
-    → (low ≤ s) ⊎ IsOfStores ws s
+    → IsInStores (image_wanted may first name x p q ∷ ws) s
+    → (low ≤ s) ⊎ IsInStores ws s
 wanted_from may first low name InPlace None q ws s le is = inr is
 wanted_from may first low name InPlace (Some p) (Some q) ws s le is = inr is
 wanted_from true first low name InPlace (Some p) None ws s le (inl is) = absurd is
@@ -140,7 +141,7 @@ wanted_from may first low name (Stored count k) (Some p) (Some q) ws s le (inr i
 
 stores_from : (may : Bool) (low slot : ℕ) (l : Layout) (statuses : List PartStatus) (s : ℕ)
     → low ≤ 4096 + l.device.first_logical_sector
-    → IsOfStores (map (wanted_of may slot l) statuses) s
+    → IsInStores (map (wanted_of may slot l) statuses) s
     → low ≤ s
 stores_from may low slot l [] s le is = absurd is
 stores_from may low slot l (st ∷ sts) s le is =
@@ -151,15 +152,15 @@ stores_from may low slot l (st ∷ sts) s le is =
 
 -- whether there may be fewer exceptions or not
 one_from : (w : Result Wanted StartFault) (ws : List (Result Wanted StartFault)) (s : ℕ)
-    → IsOfStores (or_fewer w ∷ ws) s
-    → IsOfStores (w ∷ []) s ⊎ IsOfStores ws s
+    → IsInStores (or_fewer w ∷ ws) s
+    → IsInStores (w ∷ []) s ⊎ IsInStores ws s
 one_from (Ok w) ws s (inl is) = inl (inl is)
 one_from (Ok w) ws s (inr is) = inr is
 one_from (Err fault) ws s is = inr is
 
 fewer_from : (low slot : ℕ) (l : Layout) (statuses : List PartStatus) (s : ℕ)
     → low ≤ 4096 + l.device.first_logical_sector
-    → IsOfStores (map (λ (st : PartStatus). or_fewer (wanted_of true slot l st)) statuses) s
+    → IsInStores (map (λ (st : PartStatus). or_fewer (wanted_of true slot l st)) statuses) s
     → low ≤ s
 fewer_from low slot l [] s le is = absurd is
 fewer_from low slot l (st ∷ sts) s le is =
@@ -171,7 +172,7 @@ fewer_from low slot l (st ∷ sts) s le is =
 phase_stores_from : (low : ℕ) (p : MarkPhase) (m : UpdateMark) (ts : List Table)
     (statuses : List PartStatus) (s : ℕ)
     → BeginBehind low ts
-    → IsOfStores ((phase_in p m).stores ts statuses) s
+    → IsInStores ((phase_in p m).stores ts statuses) s
     → low ≤ s
 phase_stores_from low marks.Idle m ts statuses s begin is = absurd is
 phase_stores_from low marks.Installing m [] statuses s begin is = absurd is
@@ -335,12 +336,12 @@ images_behind size low slot b through r image s reads le is =
 pub stores_behind : (size low : ℕ) (r : Read) (image : Image) (s : ℕ)
     → Reads size r image
     → 512 * (low - 4096) ≤ copies_end r.geometry
-    → IsOfStores (stores_of r) s
+    → IsOfStores (stores_of r) r.scanned s
     → low ≤ s
 stores_behind size low r image s reads le is =
     phase_stores_from low r.mark.phase r.mark r.tables (written_in r.statuses) s
     (read_begins size low r image reads le)
-    is
+    (in_stores (stores_of r) r.scanned image s reads.stores is)
 
 -- and one of a written partition
 pub plan_behind : (size low : ℕ) (r : Read) (image : Image) (s : ℕ)

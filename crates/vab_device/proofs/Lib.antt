@@ -7,6 +7,7 @@ pub mod FilledBytes
 pub mod FlashedLaws
 pub mod IdleLaws
 pub mod InPlaceLaws
+pub mod InStores
 pub mod MarkLaws
 pub mod MostLaws
 pub mod OpeningLaws
@@ -16,6 +17,7 @@ pub mod SameLaws
 pub mod StayLaws
 pub mod Steps
 pub mod StoreLaws
+pub mod StoreParts
 pub mod UpdateLaws
 pub mod WantLaws
 pub mod PhaseCases

@@ -1,7 +1,7 @@
 -- What is kept of a device between two commands, and what holds of it over every disk.
 use Rattle.std.specs.Prelude.{◌≡◌, ◌≢◌, ◌⊎◌, ℕ, ◌+◌, ◌-◌, ◌*◌, ◌≤◌, ◌<◌, ◌==◌, ◌&&◌, ◌^◌}
 use Rattle.std.specs.Prelude.{Bool, true, false, nat_le, if◌then◌else◌, List, map, length}
-use Rattle.std.specs.Prelude.{Option, Some, None, is_some, All, AllPairs, IsTrue, not, []}
+use Rattle.std.specs.Prelude.{Option, Some, None, is_some, All, AllPairs, Contains, IsTrue, not, []}
 use Rattle.std.specs.Str.{bytes_eq}
 use Rattle.vab_names.specs.Names.{is_base, base_of, store_group_name}
 use Rattle.vab_names.specs.Names.{most_partitions}
@@ -20,6 +20,7 @@ use Rattle.vab_layout.specs.declared.layout.Part.{Part as PartOfLayout}
 use Rattle.vab_layout.specs.declared.layout.Layout.{Layout}
 use Rattle.vab_layout.specs.Layout.{layout_of}
 use Rattle.vab_layout.specs.Slots.{other_slot, own_parts, twins_by, IsOwn, IsTargetBeside}
+use Rattle.vab_layout.specs.Slots.{groups_of_slot}
 pub use Rattle.vab_model.specs.Groups.{limits_of, group_of}
 use Rattle.vab_device.specs.declared.device.Part.{Part}
 use Rattle.vab_device.specs.declared.device.PartImage.{PartImage}
@@ -69,10 +70,11 @@ lies_in size g d =
 
 -- ---- what holds of a kept device over every disk
 
--- the blocks of a store lie on the disk, none twice
-pub record IsStore (size : ℕ) (store : List ℕ) : Type 0 where
+-- the blocks of a store lie on the disk, none twice, and none is one of its partition's own
+pub record IsStore (size : ℕ) (base store : List ℕ) : Type 0 where
   pub on_disk : All (λ s. s + 8 ≤ size) store
   pub once : AllPairs (λ a b. a ≢ b) store
+  pub apart : (s : ℕ) → Contains base s → Contains store s → ⊥
 
 -- A partition that is written has a store, and its exceptions keep the rules of a list; or it is
 -- written in place, without any.
@@ -80,10 +82,10 @@ abbrev pub IsStored : ℕ → List ℕ → Option (List ℕ) → PartImage → T
 IsStored size base None Kept = Unit {0}
 IsStored size base None Declared = Unit {0}
 IsStored size base None (Written k es) = es ≡ []
-IsStored size base (Some store) Kept = IsStore size store
-IsStored size base (Some store) Declared = IsStore size store
+IsStored size base (Some store) Kept = IsStore size base store
+IsStored size base (Some store) Declared = IsStore size base store
 IsStored size base (Some store) (Written k es) =
-    IsStore size store × Fits k (length base) store es
+    IsStore size base store × Fits k (length base) store es
 
 -- Its name, at most 2^28 blocks on the disk, none twice, and its store.
 pub record IsPart (size : ℕ) (p : Part) : Type 0 where
@@ -128,14 +130,15 @@ abbrev pub HasNoStores : (apart : Bool) → List PartOfLayout → Type 0
 HasNoStores true parts = All (λ p. IsTrue (is_no_store p)) parts
 HasNoStores false parts = Unit {0}
 
--- The target of an update from this source, whose tables are these. Where it stands apart, no
--- partition of the source is a twin of its own.
+-- The target of an update from this source, whose tables are these, with the same groups. Where it
+-- stands apart, no partition of the source is a twin of its own.
 pub record AreOfUpdate (apart : Bool) (source : ℕ) (s t : Table) : Type 0 where
   pub target : IsTargetBeside (other_slot source)
       (twins_by apart (layout_of s).parts)
       (layout_of s).parts
       (layout_of t).parts
   pub device : s.devices ≡ t.devices
+  pub groups : groups_of_slot source s.groups ≡ groups_of_slot (other_slot source) t.groups
   pub no_stores : HasNoStores apart (layout_of t).parts
 
 abbrev pub IsUpdate : (apart : Bool) → ℕ → Option Table → Option Table → Type 0

@@ -1,7 +1,7 @@
 -- What a whole disk means: a device with its images, or the first thing that is wrong.
 use Rattle.std.specs.Prelude.{◌≡◌, ◌⊎◌, ℕ, ◌+◌, ◌≤◌, ◌==◌, Bool, true, false, nat_le}
 use Rattle.std.specs.Prelude.{if◌then◌else◌}
-use Rattle.std.specs.Prelude.{List, [], ◌∷◌, Option, Some, None, Result, Ok, Err}
+use Rattle.std.specs.Prelude.{List, [], ◌∷◌, length, Option, Some, None, Result, Ok, Err}
 use Rattle.vab_disk.specs.Disk.{Image}
 use Rattle.vab_disk.specs.Calls.{IsBetween, SameBut}
 use Rattle.vab_bootctl.specs.declared.slots.Control.{Control}
@@ -16,6 +16,8 @@ use Rattle.vab_marks.specs.declared.version.MarkVersion.{MarkVersion}
 use Rattle.vab_marks.specs.declared.version.MarkVersion.TheVariants.{Two}
 use Rattle.vab_marks.specs.Mark.{mark_of, rephased}
 use Rattle.vab_marks.specs.Version.{version_in, partitions_under}
+use Rattle.vab_space.specs.declared.Chunk.{Chunk}
+use Rattle.vab_store.specs.Reached.{IsReached}
 use Rattle.vab_statuses.specs.Statuses.{statuses_under, written_in, IsOfStatuses}
 use Rattle.vab_tables.specs.declared.table.Table.{Table}
 use Rattle.vab_tables.specs.declared.fault.TableFault.{TableFault}
@@ -38,7 +40,7 @@ use Rattle.vab_device.specs.declared.device.Device.{Device}
 use Rattle.vab_device.specs.Checks.{unless, first_fault, passing, ◌>>=◌}
 use Rattle.vab_device.specs.Kept.{parts_of, limits_of, copies_end, super_bytes, lies_in, has_slot}
 use Rattle.vab_device.specs.Mounted.{Mounted, mounted_on, images_on, sectors_read, entries_on}
-use Rattle.vab_device.specs.Mounted.{written_sectors, blocks_there}
+use Rattle.vab_device.specs.Mounted.{written_sectors}
 use Rattle.vab_device.specs.Phases.{Phase, phase_at, plan_of, of_first_table}
 use Rattle.vab_device.specs.Stores.{Wanted, Scanned, scans_in}
 
@@ -322,11 +324,18 @@ abbrev pub IsOfImages : Option (List Part) → ℕ → Type 0
 IsOfImages None s = ⊥
 IsOfImages (Some parts) s = IsOfParts parts s
 
--- a sector of a store that is read
-abbrev pub IsOfStores : List (Result Wanted StartFault) → ℕ → Type 0
-IsOfStores [] s = ⊥
-IsOfStores (Err fault ∷ ws) s = IsOfStores ws s
-IsOfStores (Ok w ∷ ws) s = IsOfBlocks (blocks_there w.store) s ⊎ IsOfStores ws s
+-- a sector on which the list of a store rests, where there is a store and its list is so long
+abbrev pub IsOfScan : Chunk → Option (List ℕ) → (count : ℕ) → ℕ → Type 0
+IsOfScan k None count s = ⊥
+IsOfScan k (Some store) count s = IsReached k store count s
+
+-- of one of the stores that are read, whose exceptions are these
+abbrev pub IsOfStores : List (Result Wanted StartFault) → List Scanned → ℕ → Type 0
+IsOfStores [] xs s = ⊥
+IsOfStores (w ∷ ws) [] s = ⊥
+IsOfStores (Err fault ∷ ws) (x ∷ xs) s = ⊥
+IsOfStores (Ok w ∷ ws) (x ∷ xs) s =
+    IsOfScan w.chunk w.store (length x.exceptions) s ⊎ IsOfStores ws xs s
 
 -- a sector that a read of a written partition takes
 abbrev pub IsOfWritten : Part → PartImage → ℕ → Type 0
@@ -349,7 +358,7 @@ pub data Live (r : Read) (s : ℕ) : Type 0 where
   of_control : s ≡ 4 → Live r s
   of_geometry : (s ≡ 4104) ⊎ (s ≡ 4112) → Live r s
   of_tables : IsOfTables r.geometry (phase_at r.mark).tables s → Live r s
-  of_stores : IsOfStores (stores_of r) s → Live r s
+  of_stores : IsOfStores (stores_of r) r.scanned s → Live r s
   of_images_a : IsOfImages (kept r).a s → Live r s
   of_images_b : IsOfImages (kept r).b s → Live r s
   of_plan : IsOfPlan (kept r).plan s → Live r s

@@ -94,6 +94,7 @@ module _
   are = record {
     target = edited.target;
     device = (kept_update d size s t kept has).device ∙ sym edited.device;
+    groups = (kept_update d size s t kept has).groups ∙ sym edited.groups;
     no_stores =
         edited_no_stores d.mark.apart (other_slot d.mark.slot)
         (twins_by d.mark.apart (layout_of s).parts) (layout_of s) (layout_of t) (layout_of u)

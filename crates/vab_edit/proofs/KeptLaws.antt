@@ -32,12 +32,10 @@ use Rattle.vab_edit.specs.Carried.{planned_named, written_by, with_written, carr
 use Rattle.vab_edit.proofs.NamedLaws.{first_is}
 use Rattle.vab_device.proofs.OwnParts.{length-sectors_of, sectors_distinct, sectors_on, blocks_on}
 
--- ---- blocks as sectors
-
 -- ---- a plan with nothing written
 
 nothing_stored : (size first : ℕ) (base : List ℕ) (o : Option PartOfLayout) (b : Bool)
-    → ((q : PartOfLayout) → o ≡ Some q → IsStore size (sectors_of first q.blocks))
+    → ((q : PartOfLayout) → o ≡ Some q → IsStore size base (sectors_of first q.blocks))
     → IsStored size base (option_map (λ (q : PartOfLayout). sectors_of first q.blocks) o)
     (planned_image b None)
 nothing_stored size first base None false is = tt
@@ -67,26 +65,6 @@ module _
   in_cap p c =
       (All-contains (IsPartOfLayout (cap_of l.device) l.groups) l.parts p rules.parts c).blocks
 
-  store_rules : (name : List ℕ) (q : PartOfLayout)
-      → is_of_slot slot name ≡ true
-      → first_named (store_of name) l.parts ≡ Some q
-      → IsStore size (sectors_of l.device.first_logical_sector q.blocks)
-  store_rules name q own is =
-      let found = first_is (store_of name) l.parts q is in
-      let stored : is_store slot q.name ≡ true =
-      subst (λ (n : List ℕ). is_store slot n ≡ true) (sym found.named)
-      (store_is_store slot name own) in
-      let among : Contains (own_parts slot l.parts ++ store_parts slot l.parts) q =
-      Contains-append_right (own_parts slot l.parts) (store_parts slot l.parts) q
-      (in_filter (λ (p : PartOfLayout). is_store slot p.name) l.parts q found.among stored) in
-      record {
-        on_disk = sectors_on l.device.first_logical_sector (cap_of l.device) size q.blocks on
-            (in_cap q found.among);
-        once = sectors_distinct l.device.first_logical_sector q.blocks
-            (All-contains (λ (p : PartOfLayout). IsDistinct p.blocks)
-            (own_parts slot l.parts ++ store_parts slot l.parts) q once among);
-      }
-
   fresh_is : (p : PartOfLayout)
       → Contains (own_parts slot l.parts) p
       → IsPart size (planned_on l [] p)
@@ -106,7 +84,7 @@ module _
         store = nothing_stored size l.device.first_logical_sector
             (sectors_of l.device.first_logical_sector p.blocks)
             (first_named (store_of p.name) l.parts) (is_updated p)
-            (λ q is. store_rules p.name q among.1 is);
+            (λ q is. store_is size slot g l enough rules target.once lies p q c is);
       }
 
   pub fresh_planned : AreParts size (plan_of slot l [])

@@ -37,16 +37,7 @@ pub target_table : (slot : ℕ) (twins source : List PartOfLayout) (u : Table)
     → IsTargetBeside slot twins source (layout_of u).parts
     → IsTargetTable slot u
 target_table slot twins source u rules target =
-    let own : List PartOfLayout = own_parts slot (layout_of u).parts in
-    let stores : List PartOfLayout = store_parts slot (layout_of u).parts in
-    let once = pieces_once (λ (p : PartOfLayout). p.blocks) (own ++ stores) target.once in
-    record {
-      rules = rules;
-      own = target.own;
-      stores = all_from (λ (p : PartOfLayout). IsDistinct p.blocks) stores
-          (λ p c. All-contains (λ (q : PartOfLayout). IsDistinct q.blocks) (own ++ stores) p once
-          (Contains-append_right own stores p c));
-    }
+    record { rules = rules; own = target.own; once = target.once }
 
 -- it is read again as it is
 minor_2 : (l : Layout) → as_minor_2 (table_of l) ≡ table_of l

@@ -28,12 +28,13 @@ use Rattle.vab_device.specs.declared.fault.StartFault.{StartFault}
 use Rattle.vab_device.specs.Kept.{sectors_of, part_on, parts_of}
 use Rattle.vab_device.specs.Mounted.{blocks_there}
 use Rattle.vab_device.specs.Phases.{store_on, planned_on, planned_image}
-use Rattle.vab_device.specs.Reading.{IsOfBlocks, IsOfParts, IsOfImages, IsOfStores, IsOfWritten}
+use Rattle.vab_device.specs.Reading.{IsOfBlocks, IsOfParts, IsOfImages, IsOfWritten}
 use Rattle.vab_device.specs.Reading.{IsOfPlanned, table_for, parts_for}
 use Rattle.vab_device.specs.Stores.{Wanted, Scanned, first_named, image_wanted, wanted_by}
 use Rattle.vab_device.specs.Stores.{wanted_of}
 use Rattle.vab_device.specs.Stores.{scanned_named}
 use Rattle.vab_device.proofs.Behind.{seen_or}
+use Rattle.vab_device.proofs.InStores.{IsInStores}
 use Rattle.vab_device.proofs.PartBlocks.{sectors_apart}
 use Rattle.vab_device.proofs.NamedParts.{named_in}
 
@@ -218,8 +219,8 @@ module _ (slot : ℕ) (source target : List PartOfLayout) (name blocks : List �
         → first_named st (own_parts (other_slot slot) target) ≡ p
         → first_named (store_of st) target ≡ q
         → st ≢ name
-        → IsOfStores (image_wanted may at st x p q ∷ ws) s
-        → IsOfStores ws s
+        → IsInStores (image_wanted may at st x p q ∷ ws) s
+        → IsInStores ws s
     wanted_miss may st InPlace None q ws p_is q_is differs is = is
     wanted_miss may st InPlace (Some p) (Some q) ws p_is q_is differs is = is
     wanted_miss true st InPlace (Some p) None ws p_is q_is differs (inl is) = absurd is
@@ -240,21 +241,21 @@ module _ (slot : ℕ) (source target : List PartOfLayout) (name blocks : List �
         → l.parts ≡ target
         → l.device.first_logical_sector ≡ at
         → status_named name sts ≡ None
-        → IsOfStores (map (wanted_of may (other_slot slot) l) sts) s
+        → IsInStores (map (wanted_of may (other_slot slot) l) sts) s
         → ⊥
     stores_miss may l [] parts begins none is = is
     stores_miss may l (st ∷ sts) parts begins none is =
         let t = test_other (bytes_eq st.name name) st (status_named name sts) none in
         let ws : List (Result Wanted StartFault) = map (wanted_of may (other_slot slot) l) sts in
-        let here : IsOfStores
+        let here : IsInStores
         (wanted_by may at st (first_named st.name (own_parts (other_slot slot) target))
         (first_named (store_of st.name) target) ∷ ws) s =
         subst (λ (ps : List PartOfLayout).
-        IsOfStores
+        IsInStores
         (wanted_by may at st (first_named st.name (own_parts (other_slot slot) ps))
         (first_named (store_of st.name) ps) ∷ ws) s) parts
         (subst (λ (k : ℕ).
-        IsOfStores
+        IsInStores
         (wanted_by may k st (first_named st.name (own_parts (other_slot slot) l.parts))
         (first_named (store_of st.name) l.parts) ∷ ws) s) begins is) in
         stores_miss may l sts parts begins t.1

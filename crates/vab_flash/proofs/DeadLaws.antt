@@ -30,6 +30,7 @@ use Rattle.vab_device.proofs.SameLaws.{mark_same, control_same, geometry_same, t
 use Rattle.vab_device.proofs.SameLaws.{images_same}
 use Rattle.vab_device.proofs.StoreLaws.{statuses_kept, stores_kept, plan_kept}
 use Rattle.vab_device.proofs.Behind.{images_behind, stores_behind, plan_behind}
+use Rattle.vab_device.proofs.InStores.{in_stores}
 use Rattle.vab_flash.proofs.JoinLaws.{unread_unnamed}
 use Rattle.vab_flash.proofs.InstallingLaws.{installing_read, Installs}
 use Rattle.vab_flash.proofs.ApartLaws.{BelongTo, stores_miss, planned_miss, images_miss}
@@ -258,7 +259,7 @@ module _
         (λ here.
         stores_miss i.slot (layout_of i.source).parts (layout_of i.target).parts name blocks belong
         first s here i.base.apart (layout_of i.target) (written_in i.statuses) refl refl unnamed
-        is))
+        (in_stores (stores_of read) i.scanned old s i.reads.stores is)))
         i.reads.stores
 
     images_a : (s : ℕ) → IsOfImages (kept read).a s → new s ≡ old s

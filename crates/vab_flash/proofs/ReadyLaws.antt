@@ -82,13 +82,13 @@ planned_kept d size place is below = of_plan d.plan is.plan below
 pub store_kept : (size : ℕ) (p : Part) (store : List ℕ)
     → IsPart size p
     → p.store ≡ Some store
-    → IsStore size store
+    → IsStore size p.map store
 store_kept size p store is has = by_image p.image (subst (λ o. IsStored size p.map o p.image) has
     is.store)
   where
     by_image : (image : PartImage)
         → IsStored size p.map (Some store) image
-        → IsStore size store
+        → IsStore size p.map store
     by_image Kept s = s
     by_image Declared s = s
     by_image (Written chunk es) s = s.0
@@ -168,7 +168,7 @@ module _ (d : Device) (size : ℕ) (old : Image) (device_is : IsDevice d size)
 
   pub apart : IsApart (store_at d place)
   apart =
-      let s : IsStore size (store_at d place) =
+      let s : IsStore size (planned_at d place).map (store_at d place) =
       store_kept size (planned_at d place) (store_at d place)
       (planned_kept d size place device_is chosen.within) store_is in
       subst IsApart k.store_is

@@ -124,7 +124,7 @@ module _ (size : ℕ) where
         where
           stored_is : (base store : List ℕ) (x : PartImage)
               → IsStored size base (Some store) x
-              → IsStore size store
+              → IsStore size base store
           stored_is base store Kept is = is
           stored_is base store Declared is = is
           stored_is base store (Written k es) is = is.0

@@ -8,7 +8,11 @@ use Rattle.std.specs.List.{filter}
 use Rattle.std.specs.Str.{bytes_eq}
 use Rattle.std.proofs.lemmas.Bool.{cases_Bool}
 use Rattle.std.proofs.lemmas.Slice.Eq.{bytes_eq-Decides}
-use Rattle.std.proofs.lemmas.List.Elements.{All-head, All-tail}
+use Rattle.std.proofs.lemmas.List.Elements.{All-head, All-tail, All-contains}
+use Rattle.std.proofs.lemmas.List.Elements.{Contains-append_right}
+use Rattle.vab_blocks.proofs.Contained.{in_filter}
+use Rattle.vab_device.proofs.NamedParts.{named_in}
+use Rattle.vab_device.proofs.OwnParts.{each_distinct}
 use Rattle.vab_names.specs.Names.{is_of_slot, is_store, store_of}
 use Rattle.vab_tables.specs.declared.entries.Partition.{Partition}
 use Rattle.vab_tables.specs.declared.table.Table.{Table}
@@ -130,10 +134,15 @@ pub store_cap : (slot : ℕ) (t : Table) (name : List ℕ) (q : PartOfLayout)
 store_cap slot t name q target own is =
     let l = layout_of t in
     let rules = layout_keeps t target.rules in
-    let named : first_named (store_of name) (store_parts slot l.parts) ≡ Some q =
-    first_filter (is_store slot) (store_of name) l.parts (store_is_store slot name own) ∙ is in
-    let once = (first_all (λ p. IsDistinct p.blocks) (store_of name) (store_parts slot l.parts) q
-    target.stores named).0 in
+    let found = named_in (store_of name) l.parts q is in
+    let stored : is_store slot q.name ≡ true =
+    ap (is_store slot) found.1 ∙ store_is_store slot name own in
+    let once =
+    All-contains (λ (p : PartOfLayout). IsDistinct p.blocks)
+    (own_parts slot l.parts ++ store_parts slot l.parts) q
+    (each_distinct (own_parts slot l.parts ++ store_parts slot l.parts) target.once)
+    (Contains-append_right (own_parts slot l.parts) (store_parts slot l.parts) q
+    (in_filter (λ (p : PartOfLayout). is_store slot p.name) l.parts q found.0 stored)) in
     let part = (first_all (IsPartOfLayout (cap_of l.device) l.groups) (store_of name) l.parts q
     rules.parts is).0 in
     few_below (cap_of l.device) q.blocks once part.blocks

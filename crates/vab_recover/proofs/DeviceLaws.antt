@@ -47,18 +47,12 @@ use Rattle.vab_plan.proofs.PlanLaws.{first_filter, first_all}
 use Rattle.vab_device.proofs.OwnParts.{pairs_right, each_distinct, length-sectors_of}
 use Rattle.vab_device.proofs.OwnParts.{sectors_distinct, sectors_on, blocks_on, parts_kept}
 
--- ---- lists without repetition
-
--- ---- a partition
-
--- ---- a slot's own partitions
-
 -- ---- the partitions that are planned
 
 -- a store's image, where it is there
 stored : (size first : ℕ) (base : List ℕ) (x : Option PartOfLayout) (updated : Bool)
     (s : Option Scanned)
-    → ((q : PartOfLayout) → x ≡ Some q → IsStore size (sectors_of first q.blocks))
+    → ((q : PartOfLayout) → x ≡ Some q → IsStore size base (sectors_of first q.blocks))
     → ((e : Scanned)
     → s ≡ Some e
     → (store : Option (List ℕ))
@@ -127,34 +121,12 @@ module _
   abbrev first : ℕ
   first = (layout_of t).device.first_logical_sector
 
-  abbrev cap : ℕ
-  cap = cap_of (layout_of t).device
-
   layout : IsLayout (layout_of t)
   layout = layout_keeps t target.rules
 
-  on : 4096 + first + 8 * cap ≤ size
-  on = blocks_on size g (layout_of t).device enough layout.device lies
-
-  store_is : (name : List ℕ) (q : PartOfLayout)
-      → is_of_slot slot name ≡ true
-      → first_named (store_of name) l.parts ≡ Some q
-      → IsStore size (sectors_of first q.blocks)
-  store_is name q own is =
-      let part = (first_all (IsPartOfLayout cap l.groups) (store_of name) l.parts q layout.parts
-      is).0 in
-      let named : first_named (store_of name) (store_parts slot l.parts) ≡ Some q =
-      first_filter (is_store slot) (store_of name) l.parts (store_is_store slot name own) ∙ is in
-      let once = (first_all (λ p. IsDistinct p.blocks) (store_of name) (store_parts slot l.parts) q
-      target.stores named).0 in
-      record {
-        on_disk = sectors_on first cap size q.blocks on part.blocks;
-        once = sectors_distinct first q.blocks once;
-      }
-
   planned_is : (ss : List Scanned) (p : PartOfLayout)
       → All (IsScanned slot l) ss
-      → is_of_slot slot p.name ≡ true
+      → Contains (own_parts slot l.parts) p
       → first_named p.name (own_parts slot l.parts) ≡ Some p
       → IsPart size (part_on first p)
       → IsPart size (planned_on l ss p)
@@ -166,7 +138,7 @@ module _
     store =
         stored size first (sectors_of first p.blocks) (first_named (store_of p.name) l.parts)
         (is_updated p) (scanned_named p.name ss)
-        (λ q is. store_is p.name q own is)
+        (λ q is. store_is size slot g l enough layout target.once lies p q own is)
         (λ e is.
         let s = scan_is (IsScanned slot l) p.name ss e are is in
         let x = s.0 in
@@ -194,12 +166,10 @@ module _
       AllPairs-filter (λ (a b : PartOfLayout). a.name ≢ b.name)
       (λ (p : PartOfLayout). is_of_slot slot p.name) l.parts
       layout.part_names in
-      let own : All (λ p. is_of_slot slot p.name ≡ true) mine =
-      filter_passes (λ (p : PartOfLayout). is_of_slot slot p.name) l.parts in
       let long = length-map mine (part_on first) in
       record {
         each = All-map (IsPart size) (planned_on l ss) mine
-            (λ k d lt. planned_is ss (get_or mine k d) are (own k d lt)
+            (λ k d lt. planned_is ss (get_or mine k d) are (Contains-get_or mine k d lt)
             (found_at mine k d differ lt)
             (subst (IsPart size) (get_or-map (part_on first) mine k d (part_on first d) lt)
             (parts.each k (part_on first d) (omega (arith, lt, long)))));
@@ -463,7 +433,7 @@ device_kept size m statuses c g s t ss heads current source target update both p
     (parts_kept size m.slot g (layout_of s) heads.enough (layout_keeps s source.rules) source.own
     source.lies)
 
--- the stores of a slot whose blocks stand once
+-- a slot's table whose blocks stand once
 once_table : (slot : ℕ) (t : Table)
     → KeepsRules t
     → IsOwn slot (layout_of t).parts
@@ -474,21 +444,8 @@ once_table : (slot : ℕ) (t : Table)
 once_table slot t keeps own once = record {
   rules = keeps;
   own = own;
-  stores = stores_once (own_parts slot (layout_of t).parts) (store_parts slot (layout_of t).parts)
-      once;
+  once = once;
 }
-  where
-    rest_once : (ps qs : List PartOfLayout)
-        → IsDistinct (blocks_of_parts (ps ++ qs))
-        → IsDistinct (blocks_of_parts qs)
-    rest_once [] qs once = once
-    rest_once (p ∷ ps) qs once = rest_once ps qs
-        (pairs_right p.blocks (blocks_of_parts (ps ++ qs)) once)
-
-    stores_once : (ps qs : List PartOfLayout)
-        → IsDistinct (blocks_of_parts (ps ++ qs))
-        → All (λ p. IsDistinct p.blocks) qs
-    stores_once ps qs once = each_distinct qs (rest_once ps qs once)
 
 pub target_table : (slot : ℕ) (twins source : List PartOfLayout) (t : Table)
     → KeepsRules t

@@ -2,6 +2,7 @@ pub mod BlockLaws
 pub mod ChunkLaws
 pub mod IndexLaws
 pub mod PartLaws
+pub mod ReachedLaws
 pub mod ScanLaws
 pub mod ViewLaws
 pub mod SortLaws
