@@ -1,6 +1,7 @@
 -- What is read of the stores lies in their blocks.
 use Rattle.std.proofs.Common.{◌≡◌, inl, inr, ◌⊎◌, ⊎_elim, ℕ, zero, suc, ◌+◌, ◌/◌, ◌<◌, ◌≤◌, List}
-use Rattle.std.proofs.Common.{[], ◌∷◌, length, slice_index, Result, Ok, Err, ap, sym, subst, arith}
+use Rattle.std.proofs.Common.{[], ◌∷◌, length, slice_index, Result, Ok, Err, refl, sym}
+use Rattle.std.proofs.Common.{subst, arith}
 use Rattle.std.specs.Prelude.{Option, Some, None}
 use Rattle.vab_disk.specs.Disk.{Image}
 use Rattle.vab_disk.specs.Calls.{IsBetween}
@@ -11,6 +12,7 @@ use Rattle.vab_space.proofs.ChunkLaws.{page_inside, chunks_fewer}
 use Rattle.vab_store.specs.Reached.{IsOfPage, IsReached}
 use Rattle.vab_store.specs.Scan.{scan_of}
 use Rattle.vab_store.specs.View.{Fits}
+use Rattle.vab_store.proofs.ReachedLaws.{scan_kept}
 use Rattle.vab_store.proofs.ScanLaws.{scan_of_ok}
 use Rattle.vab_device.specs.declared.fault.StartFault.{StartFault}
 use Rattle.vab_device.specs.Checks.{◌>>=◌}
@@ -46,6 +48,18 @@ reached_in k store bound es s fits (inr is) =
     (page_inside k (length store) (is.entry / page_entries)
     (omega (arith, is.within, fits.room)))
     is.here
+
+-- a store whose blocks stay has the same list
+pub scan_stays : (k : Chunk) (store : List ℕ) (old new : Image)
+    → ((s : ℕ) → IsOfBlocks store s → new s ≡ old s)
+    → (bound : ℕ) (es : List Exception)
+    → scan_of k store bound old ≡ Ok es
+    → scan_of k store bound new ≡ Ok es
+scan_stays k store old new same bound es is =
+    let was = scan_of_ok store bound old es is in
+    scan_kept k store (length es) old new
+    (λ s here. same s (reached_in k store bound es s was.fits here))
+    bound es refl is
 
 scan_in : (w : Wanted) (store : Option (List ℕ)) (image : Image) (x : Scanned) (s : ℕ)
     → scan_by w store image ≡ Ok x

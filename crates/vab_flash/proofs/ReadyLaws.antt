@@ -44,7 +44,7 @@ use Rattle.vab_device.proofs.Behind.{seen_or}
 use Rattle.vab_device.proofs.DoesLaws.{step_follows}
 use Rattle.vab_device.proofs.PartBlocks.{block_behind, sectors_disjoint}
 use Rattle.vab_device.proofs.ReadingLaws.{device_same, device_stands}
-use Rattle.vab_device.proofs.StoreLaws.{scan_kept}
+use Rattle.vab_device.proofs.InStores.{scan_stays}
 use Rattle.vab_flash.specs.declared.chosen.Destination.TheVariants.{Store}
 use Rattle.vab_flash.specs.Chosen.{IsChosen, base_of_place}
 use Rattle.vab_flash.specs.Chosen.{part_among, part_named, part_at, blocks_or, store_at, store_long}
@@ -334,7 +334,7 @@ module _ (d : Device) (size : ℕ) (old : Image) (device_is : IsDevice d size)
       unfolding scan_at
       scan_one image high =
           let enough : eqb (length es) (length es) ≡ true = eq-eqb (length es) (length es) refl in
-          let kept = scan_kept chunk store_sectors mid image
+          let kept = scan_stays chunk store_sectors mid image
           (λ s here. high s (omega (arith, block_behind at k.keeps.blocks s here)))
           (length (sectors_of at p.part.blocks)) es
           (ap (λ (ss : List ℕ). scan_of chunk ss (length (sectors_of at p.part.blocks)) mid)

@@ -9,7 +9,6 @@ ghost use Rattle.vab_space.specs.declared.Chunk.{Chunk};
 ghost use Rattle.vab_model.specs.declared.state.PlanEntry.{PlanEntry};
 ghost use Rattle.vab_model.specs.Commands.{Flash};
 ghost use Rattle.vab_model.specs.Effects.{refuses};
-ghost use Rattle.vab_model.specs.Staged.{is_sparse};
 ghost use Rattle.vab_device.specs.Mounted.{Mounted, mounted_on, entry_on};
 ghost use Rattle.vab_device.specs.Flashed.{entry_effect};
 ghost use Rattle.vab_device.specs.Updates.{effect_on};
@@ -19,14 +18,11 @@ ghost use Rattle.vab_flash.specs.Place.{place_of, HasPlace, plan_or, planned_at}
 
 use vab_bytes::Listing;
 use vab_device::{Device, Part, PartImage};
-use vab_model::Refusal;
+use vab_model::{Refusal, is_sparse};
 use vab_names::{base_of, is_full};
 
 /// Bytes of a block.
 const BLOCK: u64 = 4096;
-
-/// What an Android sparse image begins with.
-const SPARSE: [u8; 4] = [0x3a, 0xff, 0x26, 0xed];
 
 /// Where the image of a partition goes.
 #[derive(Clone, Copy, Debug, PartialEq, Eq)]
@@ -64,14 +60,6 @@ fn find(device: &Device, name: &[u8]) -> Result<usize, Refusal>
             }
         }
     }
-}
-
-// Whether this is an Android sparse image.
-fn is_sparse(bytes: &[u8]) -> bool
-    ensures { result ≡ is_sparse bytes.now }
-{
-    let count = bytes.len().min(4);
-    &bytes[..count] == SPARSE.as_slice()
 }
 
 // Where the image of a partition goes: into its store, or, where the target stands apart and it has

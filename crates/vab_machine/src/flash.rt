@@ -11,9 +11,9 @@ ghost use Rattle.vab_machine.specs.Small.{IsSmall, IsSmallEntry, IsSmallPlan};
 use crate::answer::{planned, refuse};
 use crate::change::{Change, at_entry, with_entries};
 use crate::parts::{base_named, bytes_named, entry_named, images_of, installing, is_written};
-use crate::staged::{differences, filled, is_sparse};
+use crate::staged::{differences, filled};
 use std::alloc::Global;
-use vab_model::{NoMemory, Plan, PlanEntry, Refusal, Reply, State};
+use vab_model::{NoMemory, Plan, PlanEntry, Refusal, Reply, State, is_sparse};
 use vab_space::{Chunk, need_at};
 
 // An update that is installed.

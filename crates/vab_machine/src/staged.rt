@@ -3,19 +3,12 @@
 ghost use Rattle.std.specs.Prelude.{◌≡◌, ◌≤◌, ◌<◌, ◌*◌, ◌^◌, length, take, drop, IfOk};
 ghost use Rattle.vab_space.specs.Chunks.{chunks_for};
 ghost use Rattle.vab_space.specs.Differing.{any_differs, chunk_differs};
-ghost use Rattle.vab_model.specs.Staged.{is_sparse, filled, block_at, differs, differences};
+ghost use Rattle.vab_model.specs.Staged.{filled, block_at, differs, differences};
 
 use crate::count::blocks_in;
 use std::alloc::Global;
 use vab_model::NoMemory;
 use vab_space::Chunk;
-
-/// Whether this is an Android sparse image.
-pub(crate) fn is_sparse(staged: &[u8]) -> bool
-    ensures { result ≡ is_sparse staged.now }
-{
-    &staged[..staged.len().min(4)] == b"\x3a\xff\x26\xed".as_slice()
-}
 
 /// The staged bytes with zeros behind them, as so many blocks.
 #[tactic(auto, using(crate::proofs::Blocks::zeros_more))]

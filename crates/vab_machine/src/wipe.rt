@@ -14,10 +14,9 @@ ghost use Rattle.vab_model.specs.Wipe.{empty_image, empty_images, wiped, wipe_ef
 ghost use Rattle.vab_machine.specs.Sides.{a_or_b};
 
 use crate::answer::refuse;
-use crate::staged::is_sparse;
 use std::alloc::Global;
 use vab_bytes::{Bytes, Listing, Name36};
-use vab_model::{GroupLimit, Image, NoMemory, Phase, Refusal, Reply, State};
+use vab_model::{GroupLimit, Image, NoMemory, Phase, Refusal, Reply, State, is_sparse};
 use vab_names::{base_of, default_group, is_of_slot};
 use vab_super_image::{SuperImage, first_filled, read_super_image};
 use vab_tables::{Group, Partition, Table};

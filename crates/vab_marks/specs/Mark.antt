@@ -14,6 +14,11 @@ use Rattle.vab_marks.specs.declared.version.MarkVersion.TheVariants.{Two}
 use Rattle.vab_marks.specs.Sector.{zeros, are_zeros, sealed, head_fault, unless}
 use Rattle.vab_marks.specs.Version.{version_byte, is_version}
 
+-- there is no update
+abbrev pub is_idle : MarkPhase → Bool
+is_idle Idle = true
+is_idle _ = false
+
 -- the phases in which a target may stand apart
 abbrev pub may_stand_apart : MarkPhase → Bool
 may_stand_apart Installing = true

@@ -4,6 +4,7 @@ ghost use Rattle.std.specs.Prelude.{◌≡◌, IfOk, Ok};
 ghost use Rattle.vab_marks.specs.declared.mark.UpdateMark.{UpdateMark};
 ghost use Rattle.vab_marks.specs.declared.version.MarkVersion.{MarkVersion};
 ghost use Rattle.vab_marks.specs.Mark.{FitsMark, phase_byte, phase_of, mark_under, mark_of};
+ghost use Rattle.vab_marks.specs.Mark.{is_idle};
 ghost use Rattle.vab_marks.specs.Mark.{mark_spelling, may_stand_apart, rephased, resloted, begun};
 ghost use Rattle.vab_marks.specs.Version.{version_in};
 
@@ -39,6 +40,13 @@ pub struct UpdateMark {
 }
 
 impl MarkPhase {
+    /// Whether there is no update.
+    pub fn is_idle(self) -> bool
+        ensures { result ≡ is_idle self }
+    {
+        matches!(self, MarkPhase::Idle)
+    }
+
     // A phase, and whether the target stands apart.
     fn from_byte(byte: u8) -> Option<(MarkPhase, bool)>
         ensures { result ≡ phase_of byte }

@@ -31,7 +31,7 @@ use Rattle.vab_device.specs.Kept.{sectors_of}
 use Rattle.vab_device.specs.Stores.{Wanted, Scanned, first_named, image_wanted, wanted_of, or_fewer}
 use Rattle.vab_device.specs.Stores.{is_long, scan_read, scan_by, scan_at, scans_in, scanned_named}
 use Rattle.vab_device.proofs.CheckLaws.{bound}
-use Rattle.vab_device.proofs.StoreLaws.{scan_kept}
+use Rattle.vab_device.proofs.InStores.{scan_stays}
 use Rattle.vab_merging.proofs.ApartLaws.{InEither, store_miss}
 use Rattle.vab_device.proofs.NamedParts.{named_in}
 
@@ -396,7 +396,7 @@ module _ (slot : ℕ) (l : Layout) (part keeps : PartOfLayout)
         let found_now : scan_of size (sectors_of at q.blocks) (length (sectors_of at p.blocks))
         new
         ≡ Ok s.exceptions =
-        scan_kept size (sectors_of at q.blocks) old new
+        scan_stays size (sectors_of at q.blocks) old new
         (λ sector in_q.
         stay sector
         (λ either.

@@ -6,8 +6,10 @@
 mod command;
 mod copy;
 mod fault;
+mod staged;
 mod state;
 
 pub use command::{Command, Refusal, Reply};
 pub use fault::NoMemory;
+pub use staged::is_sparse;
 pub use state::{GroupLimit, Image, Phase, Plan, PlanEntry, PlanImage, State};

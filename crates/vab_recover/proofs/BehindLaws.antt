@@ -30,7 +30,7 @@ use Rattle.vab_device.specs.Mounted.{blocks_there}
 use Rattle.vab_device.specs.Stores.{Wanted, Scanned, first_named, image_wanted, wanted_of, or_fewer}
 use Rattle.vab_device.specs.Stores.{scan_read, scan_by, scan_at, scans_in}
 use Rattle.vab_device.proofs.SameLaws.{tables_agree}
-use Rattle.vab_device.proofs.StoreLaws.{scan_kept}
+use Rattle.vab_device.proofs.InStores.{scan_stays}
 use Rattle.vab_recover.specs.Behind.{SameSuper}
 use Rattle.vab_recover.specs.Opened.{AreLoaded, IsHeaded, IsFramed, wanted_for, stores_by}
 use Rattle.vab_recover.specs.Opened.{is_merging, may_place, tables_of, through_of, through_slot}
@@ -149,10 +149,10 @@ module _
       → said new ≡ y
       → scan_read w y ≡ scan_read w x
   by_both (Ok es) y was is =
-      ap (scan_read w) (sym is ∙ scan_kept w.chunk store old new same (length w.base) es was)
+      ap (scan_read w) (sym is ∙ scan_stays w.chunk store old new same (length w.base) es was)
   by_both (Err f) (Ok es) was is =
       let back : said old ≡ Ok es =
-      scan_kept w.chunk store new old (λ s there. sym (same s there)) (length w.base) es is in
+      scan_stays w.chunk store new old (λ s there. sym (same s there)) (length w.base) es is in
       let no : (let bad : Result (List Exception) StoreFault = Err f in bad ≡ Ok es) =
       sym was ∙ back in
       absurd cc

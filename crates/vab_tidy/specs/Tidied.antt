@@ -23,10 +23,6 @@ use Rattle.vab_layout.specs.Plain.{plain}
 abbrev pub HasCompleted : UpdateMark → Image → Type 0
 HasCompleted m image = mark_of (image 2048) ≡ Ok (rephased marks.Completed m)
 
-abbrev pub is_idle : MarkPhase → Bool
-is_idle marks.Idle = true
-is_idle _ = false
-
 abbrev pub is_completed : MarkPhase → Bool
 is_completed marks.Completed = true
 is_completed _ = false

@@ -12,7 +12,7 @@ ghost use Rattle.vab_device.specs.Faults.{IsOfContents, IsOfDisk};
 ghost use Rattle.vab_device.specs.Kept.{IsTableOf};
 ghost use Rattle.vab_device.specs.Reading.{mark_in};
 ghost use Rattle.vab_tidy.specs.Counts.{CountsFaults};
-ghost use Rattle.vab_tidy.specs.Tidied.{is_idle, is_completed, says_completed, is_other_part};
+ghost use Rattle.vab_tidy.specs.Tidied.{is_completed, says_completed, is_other_part};
 ghost use Rattle.vab_tidy.specs.Tidied.{is_other_group, has_other_parts, has_other_groups};
 ghost use Rattle.vab_tidy.specs.Tidied.{has_others};
 ghost use Rattle.vab_tidy.specs.Planned.{IsAloneIf, IsDue, IsTidying};
@@ -42,19 +42,6 @@ pub struct Alone {
 #[derive(Drop)]
 pub struct Tidying {
     pub alone: Option<Alone>,
-}
-
-// Whether the phase is that of no update.
-fn is_idle(phase: MarkPhase) -> bool
-    ensures { result ≡ is_idle phase }
-{
-    match phase {
-        MarkPhase::Idle => true,
-        MarkPhase::Installing => false,
-        MarkPhase::Staged => false,
-        MarkPhase::Merging => false,
-        MarkPhase::Completed => false,
-    }
 }
 
 // Whether the phase is that of a merge that has ended.
@@ -183,7 +170,7 @@ pub fn prepare<D: Disk>(
     ensures reads { OnlyReads D.Disk d.old d.new }
     ensures counts { CountsFaults D.Disk d.old d.new result }
 {
-    if !is_idle(mark.phase) {
+    if !mark.phase.is_idle() {
         return Ok(None);
     }
     match has_completed(d) {

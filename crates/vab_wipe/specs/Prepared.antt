@@ -1,7 +1,6 @@
 -- What is decided of a wipe before it writes.
 use Rattle.std.specs.Prelude.{◌≡◌, ◌≤◌, Bool, true, false, ℕ, List, length, Option, Some, None}
 use Rattle.vab_disk.specs.Disk.{Image}
-use Rattle.vab_marks.specs.declared.mark.MarkPhase.{MarkPhase}
 use Rattle.vab_marks.specs.declared.mark.MarkPhase.TheVariants as marks
 use Rattle.vab_tables.specs.declared.table.Table.{Table}
 use Rattle.vab_tables.specs.Rules.{KeepsRules}
@@ -25,10 +24,6 @@ use Rattle.vab_device.specs.Mounted.{places_on, phase_on}
 use Rattle.vab_device.specs.Updates.{other_super, full_super}
 
 -- ---- what is judged
-
-abbrev pub is_idle : MarkPhase → Bool
-is_idle marks.Idle = true
-is_idle _ = false
 
 -- why an image is none of the device's `super`
 abbrev pub other : Device → Judge

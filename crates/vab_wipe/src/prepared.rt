@@ -4,7 +4,6 @@ ghost use Rattle.std.specs.Prelude.{◌≡◌, ◌⊎◌, ℕ, ◌<◌, ◌^◌,
 ghost use Rattle.vab_disk.specs.Disk.{Image};
 ghost use Rattle.vab_model.specs.declared.command.Refusal.TheVariants as refusals;
 ghost use Rattle.vab_model.specs.Effects.{refuses};
-ghost use Rattle.vab_model.specs.Staged.{is_sparse};
 ghost use Rattle.vab_tables.specs.Rules.{KeepsRules};
 ghost use Rattle.vab_tables.specs.Spelling.{table_size_of};
 ghost use Rattle.vab_layout.specs.Layout.{layout_of};
@@ -13,22 +12,18 @@ ghost use Rattle.vab_super_image.specs.SuperImage.{super_image_of, IsSuperImage}
 ghost use Rattle.vab_device.specs.Kept.{IsDevice, table_of_slot};
 ghost use Rattle.vab_device.specs.Mounted.{phase_on, places_on};
 ghost use Rattle.vab_device.specs.Updates.{is_geometry, has_device, layout_at};
-ghost use Rattle.vab_wipe.specs.Prepared.{is_idle, other, full, judged, refused_image, Refuses};
+ghost use Rattle.vab_wipe.specs.Prepared.{other, full, judged, refused_image, Refuses};
 ghost use Rattle.vab_wipe.specs.Prepared.{AreTaken, IsEmptied, IsSpelled, IsPrepared};
 
 use std::alloc::Global;
 use vab_bytes::Listing;
 use vab_device::{Device, Part};
 use vab_geometry::Geometry;
-use vab_marks::MarkPhase;
-use vab_model::{GroupLimit, Refusal};
+use vab_model::{GroupLimit, Refusal, is_sparse};
 use vab_partitions::same_device;
 use vab_plan::{limits, parts};
 use vab_super_image::{SuperImage, first_filled, read_super_image, wiped};
 use vab_tables::{Table, encode_table, table_size};
-
-/// What an Android sparse image begins with.
-const SPARSE: [u8; 4] = [0x3a, 0xff, 0x26, 0xed];
 
 /// The table that is left of an image of a `super`, with its text, the slot's own partitions and
 /// its groups.
@@ -40,21 +35,6 @@ pub struct Prepared {
     pub groups: Listing<GroupLimit>,
 }
 
-// Whether the phase is that of no update.
-fn is_idle(phase: MarkPhase) -> bool
-    ensures { result ≡ is_idle phase }
-{
-    matches!(phase, MarkPhase::Idle)
-}
-
-// Whether this is an Android sparse image.
-fn is_sparse(bytes: &[u8]) -> bool
-    ensures { result ≡ is_sparse bytes.now }
-{
-    let count = bytes.len().min(4);
-    &bytes[..count] == SPARSE.as_slice()
-}
-
 // The staged bytes, where there is no update.
 fn take<'a>(device: &Device, staged: Option<&'a [u8]>) -> Result<&'a [u8], Refusal>
     requires kept { (size : ℕ) × IsDevice device.now size }
@@ -64,7 +44,7 @@ fn take<'a>(device: &Device, staged: Option<&'a [u8]>) -> Result<&'a [u8], Refus
         (λ r. judged device.now (option_map (λ s. s.now) staged.entry) (phase_on device.now image)
         ≡ refuses r) }
 {
-    if !is_idle(device.mark.phase) {
+    if !device.mark.phase.is_idle() {
         return Err(Refusal::NotIdle);
     }
     let bytes = match staged {

@@ -1,7 +1,8 @@
 use Rattle.std.proofs.Common.{◌≡◌, ◌∙◌, true, false, sym, ap}
 use Rattle.vab_marks.specs.declared.mark.UpdateMark.{UpdateMark}
 use Rattle.vab_marks.specs.Mark.{mark_of}
-use Rattle.vab_tidy.specs.Tidied.{is_idle, says_completed}
+use Rattle.vab_marks.specs.Mark.{is_idle}
+use Rattle.vab_tidy.specs.Tidied.{says_completed}
 use Rattle.vab_tidy.proofs.MarkLaws.{completed_is, says_of}
 use Rattle.vab_tidy.proofs.prepared.prepare.Goals as goal
 
