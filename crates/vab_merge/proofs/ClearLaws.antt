@@ -1,12 +1,13 @@
 -- Entries that are zeroed.
 use Rattle.std.proofs.Common.{◌≡◌, ◌≢◌, ◌⊎◌, inl, inr, ⊎_elim, ℕ, ◌+◌, ◌-◌, ◌*◌, ◌/◌, ◌≤◌, ◌<◌, min}
-use Rattle.std.proofs.Common.{List, length, refl, sym, ◌∙◌, ap, subst, arith}
+use Rattle.std.proofs.Common.{List, length, get_or, refl, sym, ◌∙◌, ap, subst, arith}
 use Rattle.std.specs.Int.{w64, to_le_bytes, from_le_bytes}
 use Rattle.std.proofs.lemmas.Bool.{cases_lt, cases_eq}
+use Rattle.std.proofs.lemmas.List.{ext_get_or, get_or-replicate}
 use Rattle.std.proofs.lemmas.Nat.{from_le_bytes-to_le_bytes_8}
 use Rattle.vab_bytes.specs.Number.{field, le_at, put_at}
-use Rattle.vab_bytes.proofs.NumberLaws.{length-put_at, field-put_at_same, field-put_at_below}
-use Rattle.vab_bytes.proofs.NumberLaws.{field-put_at_above}
+use Rattle.vab_bytes.proofs.NumberLaws.{length-put_at, get_or-put_at_same, get_or-put_at_below}
+use Rattle.vab_bytes.proofs.NumberLaws.{get_or-put_at_above, get_or-field, length-field, same_field}
 use Rattle.vab_disk.specs.Disk.{Image}
 use Rattle.vab_exceptions.specs.declared.area.Exception.{Exception}
 use Rattle.vab_exceptions.specs.Entries.{entry_at, put_entry}
@@ -37,71 +38,66 @@ length-put_entry bytes i e room =
     let same : length mid ≡ length bytes = length-put_at bytes (16 * i) old (omega (arith, room)) in
     length-put_at mid (16 * i + 8) new (omega (arith, room, same)) ∙ same
 
--- an eight byte number elsewhere
-number_there : (bytes : List ℕ) (i from : ℕ) (e : Exception)
-    → 16 * i + 16 ≤ length bytes
-    → (from + 8 ≤ 16 * i) ⊎ (16 * i + 16 ≤ from)
-    → le_at w64 (put_entry bytes i e) from ≡ le_at w64 bytes from
-number_there bytes i from e room out =
-    let old = to_le_bytes w64 e.old_chunk in
-    let new = to_le_bytes w64 e.new_chunk in
-    let mid : List ℕ = put_at bytes (16 * i) old in
-    let same : length mid ≡ length bytes = length-put_at bytes (16 * i) old (omega (arith, room)) in
-    let room_old : 16 * i + 8 ≤ length bytes = omega (arith, room) in
-    let room_new : 16 * i + 8 + 8 ≤ length mid = omega (arith, room, same) in
-    ap (from_le_bytes w64)
-    (⊎_elim
-    (λ before.
-    field-put_at_below mid (16 * i + 8) new from 8 room_new (omega (arith, before))
-    ∙ field-put_at_below bytes (16 * i) old from 8 room_old before)
-    (λ behind.
-    field-put_at_above mid (16 * i + 8) new from 8 room_new (omega (arith, behind))
-    ∙ field-put_at_above bytes (16 * i) old from 8 room_old (omega (arith, behind)))
-    out)
+-- each byte of a zero
+zero_byte : (i : ℕ) → i < 8 → get_or (to_le_bytes w64 0) i 0 ≡ 0
+zero_byte i below = get_or-replicate 8 i 0 0 below
 
--- another entry
-entry_there : (bytes : List ℕ) (i j : ℕ) (e : Exception)
+-- the bytes of an entry that is put without an exception
+byte_here : (bytes : List ℕ) (i n : ℕ)
     → 16 * i + 16 ≤ length bytes
-    → j ≢ i
-    → entry_at (put_entry bytes i e) j ≡ entry_at bytes j
-unfolding entry_at
-entry_there bytes i j e room other =
-    let out : (16 * j + 16 ≤ 16 * i) ⊎ (16 * i + 16 ≤ 16 * j) = elim (cases_lt j i) [
-      | inl before ↦ inl (omega (arith, before))
-      | inr behind ↦ inr (omega (arith, behind, other))
-    ] in
-    let old = number_there bytes i (16 * j) e room
-    (⊎_elim (λ before. inl (omega (arith, before))) (λ behind. inr behind) out) in
-    let new = number_there bytes i (16 * j + 8) e room
-    (⊎_elim (λ before. inl (omega (arith, before))) (λ behind. inr (omega (arith, behind))) out) in
-    (λ k. record { old_chunk = old k; new_chunk = new k })
-
--- that entry, of zeros
-entry_here : (bytes : List ℕ) (i : ℕ)
-    → 16 * i + 16 ≤ length bytes
-    → entry_at (put_entry bytes i no_exception) i ≡ no_exception
-unfolding entry_at
-entry_here bytes i room =
+    → 16 * i ≤ n
+    → n < 16 * i + 16
+    → get_or (put_entry bytes i no_exception) n 0 ≡ 0
+byte_here bytes i n room over below =
     let zeros = to_le_bytes w64 0 in
     let mid : List ℕ = put_at bytes (16 * i) zeros in
     let same : length mid ≡ length bytes =
     length-put_at bytes (16 * i) zeros (omega (arith, room)) in
-    let old : field (put_entry bytes i no_exception) (16 * i) 8 ≡ zeros =
-    field-put_at_below mid (16 * i + 8) zeros (16 * i) 8 (omega (arith, room, same)) (omega arith)
-    ∙ field-put_at_same bytes (16 * i) 8 zeros (omega (arith, room)) refl in
-    let new : field (put_entry bytes i no_exception) (16 * i + 8) 8 ≡ zeros =
-    field-put_at_same mid (16 * i + 8) 8 zeros (omega (arith, room, same)) refl in
-    let is_old = ap (from_le_bytes w64) old ∙ from_le_bytes-to_le_bytes_8 0 (omega arith) in
-    let is_new = ap (from_le_bytes w64) new ∙ from_le_bytes-to_le_bytes_8 0 (omega arith) in
-    (λ k. record { old_chunk = is_old k; new_chunk = is_new k })
+    let room_new : 16 * i + 8 + 8 ≤ length mid = omega (arith, room, same) in
+    elim (cases_lt n (16 * i + 8)) [
+      | inl first ↦
+          let at : 16 * i + (n - 16 * i) ≡ n = omega (arith, over) in
+          get_or-put_at_below mid (16 * i + 8) zeros n room_new first
+          ∙ ap (λ (k : ℕ). get_or mid k 0) (sym at)
+          ∙ get_or-put_at_same bytes (16 * i) zeros (n - 16 * i) (omega (arith, room))
+          (omega (arith, over, first))
+          ∙ zero_byte (n - 16 * i) (omega (arith, over, first))
+      | inr second ↦
+          let at : 16 * i + 8 + (n - (16 * i + 8)) ≡ n = omega (arith, second) in
+          ap (λ (k : ℕ). get_or (put_entry bytes i no_exception) k 0) (sym at)
+          ∙ get_or-put_at_same mid (16 * i + 8) zeros (n - (16 * i + 8)) room_new
+          (omega (arith, second, below))
+          ∙ zero_byte (n - (16 * i + 8)) (omega (arith, second, below))
+    ]
+
+-- all others are kept
+byte_there : (bytes : List ℕ) (i n : ℕ)
+    → 16 * i + 16 ≤ length bytes
+    → (n < 16 * i) ⊎ (16 * i + 16 ≤ n)
+    → get_or (put_entry bytes i no_exception) n 0 ≡ get_or bytes n 0
+byte_there bytes i n room out =
+    let zeros = to_le_bytes w64 0 in
+    let mid : List ℕ = put_at bytes (16 * i) zeros in
+    let same : length mid ≡ length bytes =
+    length-put_at bytes (16 * i) zeros (omega (arith, room)) in
+    let room_old : 16 * i + 8 ≤ length bytes = omega (arith, room) in
+    let room_new : 16 * i + 8 + 8 ≤ length mid = omega (arith, room, same) in
+    ⊎_elim
+    (λ before.
+    get_or-put_at_below mid (16 * i + 8) zeros n room_new (omega (arith, before))
+    ∙ get_or-put_at_below bytes (16 * i) zeros n room_old before)
+    (λ behind.
+    get_or-put_at_above mid (16 * i + 8) zeros n room_new (omega (arith, behind))
+    ∙ get_or-put_at_above bytes (16 * i) zeros n room_old (omega (arith, behind)))
+    out
 
 -- ---- entries that are zeroed one after another
 
 pub cleared_none : (from : ℕ) (bytes : List ℕ) → IsCleared from from bytes bytes
 cleared_none from bytes = record {
   long = refl;
-  kept = λ j below out. refl;
-  gone = λ j over below. absurd (omega (arith, over, below));
+  kept = λ n out. refl;
+  gone = λ n over below. absurd (omega (arith, over, below));
 }
 
 pub cleared_more : (from i : ℕ) (old mid new : List ℕ)
@@ -115,25 +111,62 @@ cleared_more from i old mid new long below over is written =
     let room : 16 * i + 16 ≤ length mid = omega (arith, below, long, is.long) in
     record {
       long = ap length written ∙ length-put_entry mid i no_exception room ∙ is.long;
-      kept = λ j inside out.
-          let other : j ≢ i = λ same. ⊎_elim (λ before. omega (arith, same, before, over))
-          (λ behind. omega (arith, same, behind)) out in
-          ap (λ (b : List ℕ). entry_at b j) written
-          ∙ entry_there mid i j no_exception room other
-          ∙ is.kept j inside (⊎_elim (λ before. inl before)
-          (λ behind. inr (omega (arith, behind))) out);
-      gone = λ j from_j to_j.
-          ap (λ (b : List ℕ). entry_at b j) written
-          ∙ elim (cases_eq j i) [
-            | inl same ↦
-                subst (λ (k : ℕ). entry_at (put_entry mid i no_exception) k ≡ no_exception)
-                (sym same)
-                (entry_here mid i room)
-            | inr other ↦
-                entry_there mid i j no_exception room other
-                ∙ is.gone j from_j (omega (arith, to_j, other))
+      kept = λ n out.
+          ap (λ (b : List ℕ). get_or b n 0) written
+          ∙ byte_there mid i n room (⊎_elim (λ before. inl (omega (arith, before, over)))
+          (λ behind. inr (omega (arith, behind))) out)
+          ∙ is.kept n (⊎_elim (λ before. inl before) (λ behind. inr (omega (arith, behind))) out);
+      gone = λ n from_n to_n.
+          ap (λ (b : List ℕ). get_or b n 0) written
+          ∙ elim (cases_lt n (16 * i)) [
+            | inl before ↦ byte_there mid i n room (inl before) ∙ is.gone n from_n before
+            | inr here ↦ byte_here mid i n room here (omega (arith, to_n))
           ];
     }
+
+-- ---- what that says of whole entries
+
+-- an entry all of whose bytes are kept
+pub entry_kept : (from to j : ℕ) (old new : List ℕ)
+    → IsCleared from to old new
+    → (j < from) ⊎ (to ≤ j)
+    → entry_at new j ≡ entry_at old j
+unfolding entry_at
+entry_kept from to j old new is out =
+    let number : (at : ℕ) → 16 * j ≤ at → at + 8 ≤ 16 * j + 16
+    → le_at w64 new at ≡ le_at w64 old at =
+    λ at over below. ap (from_le_bytes w64) (same_field new old at 8 is.long
+    (λ n n_over n_below.
+    is.kept n (⊎_elim (λ before. inl (omega (arith, before, below, n_below)))
+    (λ behind. inr (omega (arith, behind, over, n_over))) out))) in
+    let old_same = number (16 * j) (omega arith) (omega arith) in
+    let new_same = number (16 * j + 8) (omega arith) (omega arith) in
+    (λ k. record { old_chunk = old_same k; new_chunk = new_same k })
+
+-- one all of whose bytes are zeros
+pub entry_gone : (from to j : ℕ) (old new : List ℕ)
+    → IsCleared from to old new
+    → from ≤ j
+    → j < to
+    → 16 * j + 16 ≤ length new
+    → entry_at new j ≡ no_exception
+unfolding entry_at
+entry_gone from to j old new is over below room =
+    let number : (at : ℕ) → 16 * j ≤ at → at + 8 ≤ 16 * j + 16 → le_at w64 new at ≡ 0 =
+    λ at at_over at_below.
+    let long : length (field new at 8) ≡ 8 =
+    length-field new at 8 (omega (arith, at_below, room)) in
+    let zeros : field new at 8 ≡ to_le_bytes w64 0 =
+    ext_get_or 0 (field new at 8) (to_le_bytes w64 0) long
+    (λ n n_below.
+    let n_in : n < 8 = omega (arith, n_below, long) in
+    get_or-field new at 8 n n_in
+    ∙ is.gone (at + n) (omega (arith, at_over, over)) (omega (arith, at_below, n_in, below))
+    ∙ sym (zero_byte n n_in)) in
+    ap (from_le_bytes w64) zeros ∙ from_le_bytes-to_le_bytes_8 0 (omega arith) in
+    let old_gone = number (16 * j) (omega arith) (omega arith) in
+    let new_gone = number (16 * j + 8) (omega arith) (omega arith) in
+    (λ k. record { old_chunk = old_gone k; new_chunk = new_gone k })
 
 -- ---- the sectors of the pages
 

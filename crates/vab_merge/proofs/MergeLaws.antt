@@ -1,7 +1,7 @@
 -- What each step of a merge leaves.
 use Rattle.std.proofs.Common.{◌≡◌, ◌≢◌, ◌⊎◌, inl, inr, ⊎_elim, ℕ, zero, suc, ◌+◌, ◌-◌, ◌*◌, ◌/◌}
-use Rattle.std.proofs.Common.{◌%◌, ◌≤◌, ◌<◌, List, length, take, refl, sym, ◌∙◌, ap, subst, arith}
-use Rattle.std.proofs.Common.{length-take-le}
+use Rattle.std.proofs.Common.{◌%◌, ◌≤◌, ◌<◌, min, List, length, take, refl, sym, ◌∙◌, ap, subst}
+use Rattle.std.proofs.Common.{arith, length-take-le}
 use Rattle.std.specs.Prelude.{slice_index, Option, Some, None, Ok}
 use Rattle.std.proofs.lemmas.Bool.{cases_lt, cases_eq}
 use Rattle.std.proofs.lemmas.List.{take_all}
@@ -28,7 +28,7 @@ use Rattle.vab_merge.specs.Cleared.{IsClearedAt, IsClearing, AreCleared, page_se
 use Rattle.vab_merge.specs.Merged.{CanMerge, WithoutLast}
 use Rattle.vab_merge.proofs.CopyLaws.{MayCopy, store_kept, base_kept, copied_of_base}
 use Rattle.vab_merge.proofs.CopyLaws.{copied_of_other}
-use Rattle.vab_merge.proofs.ClearLaws.{sector_other}
+use Rattle.vab_merge.proofs.ClearLaws.{sector_other, entry_kept, entry_gone}
 use Rattle.vab_merge.proofs.SlotLaws.{AreWhole, slot_in_sector, slot_same}
 
 pub may_copy : (k : Chunk) (base store : List ℕ) (es : List Exception) (size : ℕ)
@@ -237,16 +237,28 @@ module _ (k : Chunk) (base store : List ℕ) (es : List Exception) (size first :
       let done : IsClearedAt first (length es) i (mid s) (new s) =
       subst (λ (n : ℕ). IsClearedAt first (length es) n (mid s) (new s)) same_sector
       cleared.cleared in
+      let page : (t / 32) / 8 ≡ t / 256 = omega arith in
+      let long : length (new s) ≡ 512 =
+      subst (λ (p : ℕ). length (new (slice_index store (page_block k p) + i % 8)) ≡ 512) (sym page)
+      (whole_new (t / 256) inside (i % 8) (omega arith)) in
+      let from : ℕ = first - 32 * i in
+      let to : ℕ = min (length es - 32 * i) 32 in
       elim (cases_lt t first) [
-        | inl before ↦ inl (now ∙ done.kept j (omega arith) (inl (omega (arith, before))) ∙ sym was)
+        | inl before ↦
+            inl (now ∙ entry_kept from to j (mid s) (new s) done (inl (omega (arith, before)))
+            ∙ sym was)
         | inr behind ↦ elim (cases_lt t (length es)) [
-          | inl inside ↦
+          | inl within ↦
               inr (
                 behind,
-                inside,
-                now ∙ done.gone j (omega (arith, behind)) (omega (arith, inside)),
+                within,
+                now
+                    ∙ entry_gone from to j (mid s) (new s) done (omega (arith, behind))
+                    (omega (arith, within)) (omega (arith, long)),
               )
-          | inr past ↦ inl (now ∙ done.kept j (omega arith) (inr (omega (arith, past))) ∙ sym was)
+          | inr past ↦
+              inl (now ∙ entry_kept from to j (mid s) (new s) done (inr (omega (arith, past)))
+              ∙ sym was)
         ]
       ])
       (blend s)
@@ -415,9 +427,14 @@ module _ (k : Chunk) (base store : List ℕ) (es : List Exception) (size first :
       omega (arith, ready.some, ready.scan.fits.room) in
       let done : IsClearedAt first (length es) i (mid s) (new s) =
       all i (record { from = omega arith; below = omega (arith, ready.some) }) in
+      let page : (first / 32) / 8 ≡ first / 256 = omega arith in
+      let long : length (new s) ≡ 512 =
+      subst (λ (p : ℕ). length (new (slice_index store (page_block k p) + i % 8)) ≡ 512) (sym page)
+      (whole_new (first / 256) inside (i % 8) (omega arith)) in
       let zeroed : slot_at k store new first ≡ no_exception =
       slot_in_sector k store new first (whole_new (first / 256) inside)
-      ∙ done.gone j (omega arith) (omega (arith, ready.some)) in
+      ∙ entry_gone (first - 32 * i) (min (length es - 32 * i) 32) j (mid s) (new s) done
+      (omega arith) (omega (arith, ready.some)) (omega (arith, long)) in
       without_at first (record {
         from = omega arith;
         within = omega (arith, ready.some);

@@ -1,12 +1,20 @@
 -- What a merge leaves, and that the next may follow.
-use Rattle.std.proofs.Common.{◌≡◌, ℕ, ◌-◌, ◌≤◌, List, length, take, arith, length-take-le}
+use Rattle.std.proofs.Common.{◌≡◌, ◌⊎◌, inl, inr, ℕ, ◌-◌, ◌*◌, ◌/◌, ◌≤◌, List, length, take, ◌∙◌}
+use Rattle.std.proofs.Common.{sym, ap, arith, length-take-le}
+use Rattle.std.proofs.lemmas.Bool.{cases_lt}
+use Rattle.vab_space.specs.Chunks.{entries_in}
+use Rattle.vab_disk.specs.Disk.{Image}
 use Rattle.vab_space.specs.declared.Chunk.{Chunk}
 use Rattle.vab_exceptions.specs.declared.area.Exception.{Exception}
 use Rattle.vab_store.specs.View.{Fits}
 use Rattle.vab_store.proofs.ViewLaws.{take_fits}
 use Rattle.vab_merge.specs.declared.merge.Ran.{Ran}
 use Rattle.vab_merge.specs.declared.merge.Ran.TheVariants.{Merged, Empty}
-use Rattle.vab_merge.specs.Merged.{MayMerge, CanMerge, MayRun, IsRan, dropped_by}
+use Rattle.vab_merge.specs.Copied.{InBlocksOf}
+use Rattle.vab_merge.specs.Cleared.{IsClearing, page_sector}
+use Rattle.vab_merge.specs.Merged.{MayMerge, CanMerge, MayRun, IsRan, dropped_by, IsMerging}
+use Rattle.vab_merge.specs.Merged.{IsMergedSector}
+use Rattle.vab_merge.proofs.RunLaws.{run_fewer}
 use Rattle.vab_merge.proofs.RunSteps.{may_none}
 
 -- ---- the exceptions without the last n
@@ -53,3 +61,45 @@ pub ran_run : (k : Chunk) (es : List Exception) (most : ℕ) (ran : Ran)
     → MayRun k es most (dropped_by ran)
 ran_run k es most Empty is = may_none k es most
 ran_run k es most (Merged n) is = record { run = is.1.run; at_most = is.1.at_most }
+
+-- ---- which sectors are written
+
+-- a sector in which entries are zeroed is the sector of one of them
+pub merged_sector : (k : Chunk) (base store : List ℕ) (es : List Exception) (most : ℕ)
+    (image : Image) (s : ℕ) (b : List ℕ)
+    → IsMerging k base store es most image s b
+    → IsMergedSector k base store es most s
+merged_sector k base store es most image s b is = by_kind is.here
+  where
+    by_kind : InBlocksOf k base es is.place s ⊎ IsClearing k store is.place (length es) image s b
+        → IsMergedSector k base store es most s
+    by_kind (inl copied) = record {
+      place = is.place;
+      within = is.within;
+      may_run = is.may_run;
+      here = inl copied;
+    }
+    by_kind (inr zeroed) =
+        let i : ℕ = zeroed.sector in
+        elim (cases_lt is.place (32 * i)) [
+          | inl before ↦
+              let at : (32 * i) / 32 ≡ i = omega arith in
+              record {
+                place = 32 * i;
+                within = zeroed.within.below;
+                may_run = record {
+                  run = run_fewer (entries_in k) es (length es - is.place) (length es - 32 * i)
+                      is.may_run.run (omega (arith, before));
+                  at_most = omega (arith, before, is.may_run.at_most);
+                };
+                here = inr (zeroed.here ∙ ap (page_sector k store) (sym at));
+              }
+          | inr at_begin ↦
+              let at : is.place / 32 ≡ i = omega (arith, at_begin, zeroed.within.from) in
+              record {
+                place = is.place;
+                within = is.within;
+                may_run = is.may_run;
+                here = inr (zeroed.here ∙ ap (page_sector k store) (sym at));
+              }
+        ]

@@ -4,8 +4,6 @@ use Rattle.std.specs.Prelude.{slice_index}
 use Rattle.vab_disk.specs.Disk.{Image}
 use Rattle.vab_space.specs.declared.Chunk.{Chunk}
 use Rattle.vab_space.specs.Chunks.{page_block}
-use Rattle.vab_exceptions.specs.Entries.{entry_at}
-use Rattle.vab_store.specs.View.{no_exception}
 
 -- how many entries a sector has, and how many sectors a page
 abbrev pub sector_entries : ℕ
@@ -14,14 +12,18 @@ sector_entries = 32
 abbrev pub page_sectors : ℕ
 page_sectors = 8
 
--- the entries of a sector from the one up to the other are zeros, and the others are kept
+-- how many bytes an entry has
+abbrev pub entry_long : ℕ
+entry_long = 16
+
+-- all bytes of a sector's entries from the one up to the other are zeros, and each other byte is
+-- kept
 pub record IsCleared (from to : ℕ) (old new : List ℕ) : Type 0 where
   pub long : length new ≡ length old
-  pub kept : (j : ℕ)
-      → j < sector_entries
-      → (j < from) ⊎ (to ≤ j)
-      → entry_at new j ≡ entry_at old j
-  pub gone : (j : ℕ) → from ≤ j → j < to → entry_at new j ≡ no_exception
+  pub kept : (i : ℕ)
+      → (i < entry_long * from) ⊎ (entry_long * to ≤ i)
+      → slice_index new i ≡ slice_index old i
+  pub gone : (i : ℕ) → entry_long * from ≤ i → i < entry_long * to → slice_index new i ≡ 0
 
 -- the i-th sector of a store's pages, counted through them
 abbrev pub page_sector : Chunk → List ℕ → ℕ → ℕ

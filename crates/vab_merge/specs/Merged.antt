@@ -10,7 +10,7 @@ use Rattle.vab_store.specs.Seen.{view_block}
 use Rattle.vab_store.specs.View.{Fits}
 use Rattle.vab_merge.specs.Run.{IsRun, IsLongest}
 use Rattle.vab_merge.specs.Copied.{InBlocksOf}
-use Rattle.vab_merge.specs.Cleared.{page_sector, sector_entries}
+use Rattle.vab_merge.specs.Cleared.{page_sector, sector_entries, IsClearing}
 use Rattle.vab_merge.specs.declared.merge.Ran.{Ran}
 use Rattle.vab_merge.specs.declared.merge.Ran.TheVariants.{Merged, Empty}
 
@@ -75,6 +75,21 @@ pub record IsMergedSector
   pub within : place < length es
   pub may_run : MayRun k es most (length es - place)
   pub here : InBlocksOf k base es place s ⊎ (s ≡ entry_sector k store place)
+
+-- What is written for exceptions that are merged, the last of a run: a sector of the blocks of one;
+-- or one of their entries, as it was but for those from some place on, all of which are zeros.
+pub record IsMerging
+    (k : Chunk)
+    (base store : List ℕ)
+    (es : List Exception)
+    (most : ℕ)
+    (image : Image)
+    (s : ℕ)
+    (b : List ℕ) : Type 0 where
+  pub place : ℕ
+  pub within : place < length es
+  pub may_run : MayRun k es most (length es - place)
+  pub here : InBlocksOf k base es place s ⊎ IsClearing k store place (length es) image s b
 
 -- how many were merged, or that none is left
 abbrev pub IsRan : Chunk → List Exception → ℕ → Ran → Type 0

@@ -10,7 +10,7 @@ ghost use Rattle.vab_merge.specs.Run.{IsRun};
 ghost use Rattle.vab_merge.specs.Copied.{InCopied, AreCopied};
 ghost use Rattle.vab_merge.specs.Cleared.{IsClearing, AreCleared};
 ghost use Rattle.vab_merge.specs.Merged.{MayMerge, CanMerge, WithoutLast, LeavesMerged};
-ghost use Rattle.vab_merge.specs.Merged.{IsMergedSector, IsRan, dropped_by};
+ghost use Rattle.vab_merge.specs.Merged.{IsMerging, IsRan, dropped_by};
 
 use crate::clear::clear_entries;
 use crate::copy::copy_blocks;
@@ -100,8 +100,11 @@ fn merge_last<D: Disk>(
         → scan_of chunk store.now (length base.now) (D.seen d.old) ≡ Ok view.now
         → Adds D.moment D.outcomes d.old d.new
         (LeavesMerged chunk base.now store.now view.now n (D.told d.old) (D.seen d.old)) }
+    ensures cleared { D.is_modelled → OnOk result
+        (AreCleared chunk store.now (length view.now - n) (length view.now)
+        (D.seen d.old) (D.seen d.new)) }
     ensures touches { Touches D.Disk
-        (InSectors (IsMergedSector chunk base.now store.now view.now n)) d.old d.new }
+        (IsMerging chunk base.now store.now view.now n (D.seen d.old)) d.old d.new }
     ensures faults { FailsWithDisk D.Disk d.old d.new result }
 {
     let end = view.count();
@@ -153,8 +156,12 @@ pub fn run_turn<D: Disk>(
         → scan_of chunk store.now (length base.now) (D.seen d.old) ≡ Ok view.old
         → Adds D.moment D.outcomes d.old d.new
         (LeavesMerged chunk base.now store.now view.old most (D.told d.old) (D.seen d.old)) }
+    // In their sectors all bytes of the entries that are gone are zeros, and each other is kept.
+    ensures cleared { D.is_modelled → IfOk result (λ ran.
+        AreCleared chunk store.now (length view.old - dropped_by ran) (length view.old)
+        (D.seen d.old) (D.seen d.new)) }
     ensures touches { Touches D.Disk
-        (InSectors (IsMergedSector chunk base.now store.now view.old most)) d.old d.new }
+        (IsMerging chunk base.now store.now view.old most (D.seen d.old)) d.old d.new }
     ensures faults { FailsWithDisk D.Disk d.old d.new result }
 {
     let n = run_length(view, most, chunk);
@@ -195,8 +202,12 @@ pub fn turn<D: Disk>(
         → scan_of chunk store.now (length base.now) (D.seen d.old) ≡ Ok view.old
         → Adds D.moment D.outcomes d.old d.new
         (LeavesMerged chunk base.now store.now view.old 1 (D.told d.old) (D.seen d.old)) }
+    // In their sectors all bytes of the entries that are gone are zeros, and each other is kept.
+    ensures cleared { D.is_modelled → IfOk result (λ ran.
+        AreCleared chunk store.now (length view.old - dropped_by ran) (length view.old)
+        (D.seen d.old) (D.seen d.new)) }
     ensures touches { Touches D.Disk
-        (InSectors (IsMergedSector chunk base.now store.now view.old 1)) d.old d.new }
+        (IsMerging chunk base.now store.now view.old 1 (D.seen d.old)) d.old d.new }
     ensures faults { FailsWithDisk D.Disk d.old d.new result }
 {
     run_turn(d, base, store, view, 1, chunk)

@@ -7,7 +7,7 @@ use Rattle.vab_merge.specs.Copied.{InCopied, AreCopied}
 use Rattle.vab_merge.specs.Cleared.{IsClearing, AreCleared}
 use Rattle.vab_merge.specs.Merged.{WithoutLast}
 use Rattle.vab_merge.proofs.RunSteps.{touches_copied, touches_merged}
-use Rattle.vab_merge.proofs.RunSteps.{time_copied, time_merged, merged}
+use Rattle.vab_merge.proofs.RunSteps.{time_copied, time_merged, merged, cleared_since}
 use Rattle.vab_merge.proofs.merge.merge_last.Goals as goal
 
 pub clear_run-requires : goal.clear_run-requires
@@ -58,7 +58,7 @@ returns-clause-touches g c =
     let es : List Exception = c.args.view.now in
     let n : ℕ = c.args.n in
     touches_merged g.D.Disk k c.args.base.now c.args.store.now es n c.requires.run c.args.d.now
-    c.copy_run.new.d c.clear_run.new.d c.requires.some
+    c.copy_run.new.d c.clear_run.new.d c.requires.some c.requires.can
     (subst (λ (m : ℕ). Touches g.D.Disk
     (InSectors (InCopied k c.args.base.now es (m - n))) c.args.d.now c.copy_run.new.d)
     c.count-end.ensures c.copy_run.ensures.touches)
@@ -113,6 +113,28 @@ returns-clause-merged g c = λ t scanned.
     (subst (λ (m : ℕ). Touches g.D.Disk
     (IsClearing k c.args.store.now (m - n) m (g.D.Disk.seen mid)) mid c.clear_run.new.d)
     c.count-end.ensures c.clear_run.ensures.touches)
+    (subst (λ (m : ℕ). AreCleared k c.args.store.now (m - n) m (g.D.Disk.seen mid)
+    (g.D.Disk.seen c.clear_run.new.d))
+    c.count-end.ensures all))
+    (c.clear_run.ensures.cleared t)
+
+pub returns-clause-cleared : goal.returns-clause-cleared
+returns-clause-cleared g c = λ t.
+    let k : Chunk = c.args.chunk in
+    let es : List Exception = c.args.view.now in
+    let n : ℕ = c.args.n in
+    let mid = c.copy_run.new.d in
+    IfOk-weaker c.clear_run.result
+    (λ u. AreCleared k c.args.store.now (c.count-end.result - n) c.count-end.result
+    (g.D.Disk.seen mid) (g.D.Disk.seen c.clear_run.new.d))
+    (λ u. AreCleared k c.args.store.now (length es - n) (length es)
+    (g.D.Disk.seen c.args.d.now) (g.D.Disk.seen c.clear_run.new.d))
+    (λ u all.
+    cleared_since g.D.Disk k c.args.base.now c.args.store.now es n c.requires.run c.args.d.now
+    mid c.clear_run.new.d t (c.requires.can t)
+    (subst (λ (m : ℕ). Touches g.D.Disk
+    (InSectors (InCopied k c.args.base.now es (m - n))) c.args.d.now mid)
+    c.count-end.ensures c.copy_run.ensures.touches)
     (subst (λ (m : ℕ). AreCleared k c.args.store.now (m - n) m (g.D.Disk.seen mid)
     (g.D.Disk.seen c.clear_run.new.d))
     c.count-end.ensures all))

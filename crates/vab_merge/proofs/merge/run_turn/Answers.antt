@@ -4,7 +4,8 @@ use Rattle.vab_disk.proofs.CallLaws.{touches_none}
 use Rattle.vab_disk.proofs.Moments.{adds_none}
 use Rattle.vab_space.specs.Chunks.{entries_in}
 use Rattle.vab_merge.specs.Run.{IsLongest}
-use Rattle.vab_merge.proofs.RunSteps.{leaves_more, sectors_more, without_none, empty_run}
+use Rattle.vab_merge.proofs.RunSteps.{leaves_more, merging_more, without_none, empty_run}
+use Rattle.vab_merge.proofs.RunSteps.{clears_none}
 use Rattle.vab_merge.proofs.merge.run_turn.Goals as goal
 
 pub returns-then-n-eq0-clause-ran : goal.returns-then-n-eq0-clause-ran
@@ -37,7 +38,7 @@ returns-in-Err-clause-time g c = λ t rest scanned.
 
 pub returns-in-Err-clause-touches : goal.returns-in-Err-clause-touches
 returns-in-Err-clause-touches g c =
-    sectors_more g.D.Disk c.args.chunk c.args.base.now c.args.store.now c.args.view.now
+    merging_more g.D.Disk c.args.chunk c.args.base.now c.args.store.now c.args.view.now
     c.run_length-n.result c.args.most c.args.d.now c.merge_last.new.d c.run_length-n.ensures.at_most
     c.merge_last.ensures.touches
 
@@ -49,6 +50,11 @@ returns-in-Ok-clause-time g c = λ t rest scanned.
 
 pub returns-in-Ok-clause-touches : goal.returns-in-Ok-clause-touches
 returns-in-Ok-clause-touches g c =
-    sectors_more g.D.Disk c.args.chunk c.args.base.now c.args.store.now c.args.view.now
+    merging_more g.D.Disk c.args.chunk c.args.base.now c.args.store.now c.args.view.now
     c.run_length-n.result c.args.most c.args.d.now c.merge_last.new.d c.run_length-n.ensures.at_most
     c.merge_last.ensures.touches
+
+pub returns-then-n-eq0-clause-cleared : goal.returns-then-n-eq0-clause-cleared
+returns-then-n-eq0-clause-cleared g c = λ t.
+    clears_none c.args.chunk c.args.store.now (length c.args.view.now - 0)
+    (length c.args.view.now) (g.D.Disk.seen c.args.d.now) (omega arith)
