@@ -2,7 +2,7 @@
 use Rattle.std.specs.Prelude.{◌≡◌, ℕ, ◌<◌, List, [], length, Result, Ok, IfOk, OnOk}
 use Rattle.vab_disk.specs.declared.disk.Disk.{Ghosts}
 use Rattle.vab_disk.specs.Disk.{Adds}
-use Rattle.vab_disk.specs.Calls.{FailsWithDisk, InSectors, IsAtRest, Touches}
+use Rattle.vab_disk.specs.Calls.{FailsWithDisk, IsAtRest, Touches}
 use Rattle.vab_gate.specs.declared.gate.DiskFault.{DiskFault}
 use Rattle.vab_exceptions.specs.declared.area.Exception.{Exception}
 use Rattle.vab_space.specs.declared.Chunk.{Chunk}
@@ -10,7 +10,7 @@ use Rattle.vab_space.specs.declared.Chunk.TheVariants.{One}
 use Rattle.vab_space.specs.Chunks.{entries_in}
 use Rattle.vab_store.specs.Scan.{scan_of}
 use Rattle.vab_merge.specs.Run.{IsLongest}
-use Rattle.vab_merge.specs.Merged.{WithoutLast, LeavesMerged, IsMergedSector}
+use Rattle.vab_merge.specs.Merged.{WithoutLast, LeavesMerged, IsMerging}
 use Rattle.vab_device.specs.declared.device.Part.{Part}
 use Rattle.vab_device.specs.declared.device.PartImage.{PartImage}
 use Rattle.vab_device.specs.declared.device.PartImage.TheVariants.{Kept, Declared, Written}
@@ -61,6 +61,6 @@ pub record RunsPart {D A : Type 0}
       (LeavesMerged (chunk_in p.image) p.map (store_in p) (exceptions_in p.image) most
       (g.told old) (g.seen old))
   pub touches : Touches g
-      (InSectors (IsMergedSector (chunk_in p.image) p.map (store_in p) (exceptions_in p.image)
-      most)) old new
+      (IsMerging (chunk_in p.image) p.map (store_in p) (exceptions_in p.image) most (g.seen old))
+      old new
   pub faults : FailsWithDisk g old new result
