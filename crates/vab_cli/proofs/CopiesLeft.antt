@@ -1,22 +1,15 @@
 -- Both copies of the tables, where a run has come to its end.
-use Rattle.std.proofs.Common.{◌≡◌, ◌∙◌, ◌⊎◌, ⊎_elim, ℕ, true, false, None, Ok, Err}
-use Rattle.std.proofs.Common.{Bool, Option, Result, sym, subst}
+use Rattle.std.proofs.Common.{◌≡◌, ◌∙◌, ◌⊎◌, ⊎_elim, ℕ, None, Ok, Err}
+use Rattle.std.proofs.Common.{Option, Result, sym, subst}
 use Rattle.vab_disk.specs.declared.disk.Disk.{Ghosts}
 use Rattle.vab_disk.specs.Calls.{Changes}
 use Rattle.vab_disk.specs.Written.{same_image}
-use Rattle.vab_gen.specs.Sets.{fresh_set}
-use Rattle.vab_model.specs.Commands.{Command}
 use Rattle.vab_device.specs.declared.device.Device.{Device}
 use Rattle.vab_device.specs.declared.fault.StartFault.{StartFault}
 use Rattle.vab_device.specs.declared.fault.StartFault.TheVariants as start
-use Rattle.vab_device.specs.Mounted.{Mounted}
-use Rattle.vab_device.specs.Reading.{IsIn}
 use Rattle.vab_make.specs.declared.fault.MakeFault.{MakeFault}
 use Rattle.vab_make.specs.declared.fault.MakeFault.TheVariants as make
-use Rattle.vab_make.specs.Made.{refusal_of}
 use Rattle.vab_make.specs.Making.{Gives}
-use Rattle.vab_words.specs.Verbs.{Meaning, Serve, Install, Demo}
-use Rattle.vab_words.specs.Verbs as verbs
 use Rattle.vab_commands.specs.Copies.{HasBothCopies}
 use Rattle.vab_session.specs.Served.{Answer, Held as SessionHeld}
 use Rattle.vab_session.specs.declared.fault.SessionFault.TheVariants as session
@@ -25,9 +18,8 @@ use Rattle.vab_cli.specs.declared.status.Status.TheVariants.{Done, Usage, Malfor
 use Rattle.vab_cli.specs.declared.status.Status.TheVariants.{NotADevice, Disk, Port, NoMemory}
 use Rattle.vab_cli.specs.Acts.{Course, Performs, status_in}
 use Rattle.vab_cli.specs.Codes.{make_status, session_status, start_status}
-use Rattle.vab_cli.specs.Copies.{IsAnswered, LeavesCopies, OpensDevice}
+use Rattle.vab_cli.specs.Copies.{IsAnswered}
 use Rattle.vab_cli.specs.Runs.{Held, IsEarly, IsFailed}
-use Rattle.vab_cli.specs.Verbs.{command_of}
 
 -- ---- which statuses answer
 
@@ -136,90 +128,3 @@ module _ {D : Type 0} (g : Ghosts D) where
   performed_copies d c size mid new r s t sized p is answers =
       subst (λ (n : ℕ). HasBothCopies n (g.seen new)) sized
       (p.copies t (answered_held (status_in r) (subst IsAnswered is answers)))
-
-  -- ---- the verbs
-
-  module _ (m : Meaning) (old new : D) (status : Status) where
-    abbrev Copies : Type 0
-    Copies = HasBothCopies (g.size old) (g.seen new)
-
-    pub opened_copies : (n : Meaning)
-        → m ≡ n
-        → ((turns : ℕ) → n ≡ Serve true turns → ⊥)
-        → ((seed scale : ℕ) → n ≡ Demo seed scale → ⊥)
-        → (g.is_modelled
-        → (s : Mounted)
-        → IsIn (g.size old) s (g.seen old)
-        → IsAnswered status
-        → Copies)
-        → LeavesCopies g m old new status
-    opened_copies n same not_fresh not_demo copies = record {
-      opened = λ t of s stands answers. copies t s stands answers;
-      fresh = λ t k is. absurd (not_fresh k (sym same ∙ is));
-      demo = λ t seed scale is. absurd (not_demo seed scale (sym same ∙ is));
-    }
-
-    -- verbs that aren't on the device of the disk
-    unopened : (n : Meaning)
-        → command_of n ≡ None
-        → ((turns : ℕ) → n ≡ Serve false turns → ⊥)
-        → (n ≡ Install → ⊥)
-        → (n ≡ verbs.Status → ⊥)
-        → OpensDevice n
-        → ⊥
-    unopened n none not_serve not_install not_status of =
-        ⊎_elim
-        (λ some. let both = sym some.1 ∙ none in cc)
-        (λ others.
-        ⊎_elim (λ some. not_serve some.0 some.1) (λ more. ⊎_elim not_install not_status more)
-        others)
-        of
-
-    pub fresh_copies : (turns : ℕ)
-        → m ≡ Serve true turns
-        → (g.is_modelled → (status ≡ Done) ⊎ (status ≡ Malformed) → Copies)
-        → LeavesCopies g m old new status
-    fresh_copies turns same copies = record {
-      opened = λ t of.
-          absurd (unopened (Serve true turns) (let r : Option Command = None in λ i. r) (λ k e. cc)
-          (λ e. cc) (λ e. cc) (subst OpensDevice same of));
-      fresh = λ t k is ends. copies t ends;
-      demo = λ t seed scale is. let both = sym same ∙ is in cc;
-    }
-
-    pub demo_copies : (a b : ℕ)
-        → m ≡ Demo a b
-        → (g.is_modelled
-        → refusal_of (fresh_set b a) 0 65536 (g.size old) ≡ None
-        → IsAnswered status
-        → Copies)
-        → LeavesCopies g m old new status
-    demo_copies a b same copies = record {
-      opened = λ t of.
-          absurd (unopened (Demo a b) (let r : Option Command = None in λ i. r) (λ k e. cc)
-          (λ e. cc) (λ e. cc) (subst OpensDevice same of));
-      fresh = λ t k is. let both = sym same ∙ is in cc;
-      demo = λ t seed scale is none answers.
-          let both : Demo a b ≡ Demo seed scale = sym same ∙ is in
-          let one : seed ≡ a = cc in
-          let two : scale ≡ b = cc in
-          copies t ((λ i. refusal_of (fresh_set (sym two i) (sym one i)) 0 65536 (g.size old))
-          ∙ none) answers;
-    }
-
-    -- verbs that leave no device on which both copies agree
-    pub no_copies : (n : Meaning)
-        → m ≡ n
-        → command_of n ≡ None
-        → ((fresh : Bool) (turns : ℕ) → n ≡ Serve fresh turns → ⊥)
-        → (n ≡ Install → ⊥)
-        → (n ≡ verbs.Status → ⊥)
-        → ((seed scale : ℕ) → n ≡ Demo seed scale → ⊥)
-        → LeavesCopies g m old new status
-    no_copies n same none not_serve not_install not_status not_demo = record {
-      opened = λ t of.
-          absurd (unopened n none (λ k. not_serve false k) not_install not_status
-          (subst OpensDevice same of));
-      fresh = λ t k is. absurd (not_serve true k (sym same ∙ is));
-      demo = λ t seed scale is. absurd (not_demo seed scale (sym same ∙ is));
-    }

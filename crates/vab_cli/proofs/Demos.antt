@@ -184,24 +184,27 @@ module _ {D : Type 0}
   -- memory was refused before anything was done
   pub demo_short : Demonstrates g set next old old NoMemory
   demo_short = record {
-    runs = λ t none.
-        inr (making_failed g only_now size 0 set 0 65536 old old NoMemory (inr refl) refl
+        runs = λ t. record {
+          lives = λ none.
+              inr (making_failed g only_now size 0 set 0 65536 old old NoMemory (inr refl) refl
         (λ memory. inl (untouched_stays g only_now size old old refl))
         (λ rest. record {
           later = omega arith;
           keeps = λ t o before there. there;
           adds = λ t o before there. inl there;
         }));
-    refused = λ t fault is.
-        let reads = reads_none g old in
+          refused = λ fault is. let reads = reads_none g old in
         refused_unheard g only_now size (make_line fault) (make_status fault) old old NoMemory
         refl refl (reads.time t) (silent_line fault)
         (λ port. absurd (status_not_port fault port)) (inr (inr refl));
-    small = λ less. inr (inr refl);
-    touches = λ t. changes_none g _ old;
-    writes = λ t. inr (changes_as g Fresh old old t (changes_none g Fresh old));
-    quiet = λ t. record { left = refl; heard = refl };
-  }
+        };
+        writes = λ t. record {
+          touches = changes_none g _ old;
+          in_turn = inr (changes_as g Fresh old old t (changes_none g Fresh old));
+        };
+        small = λ less. inr (inr refl);
+        quiet = λ t. record { left = refl; heard = refl };
+      }
 
   -- it isn't made
   pub demo_unmade : (f : MakeFault) (mid new : D) (status : Status)
@@ -215,8 +218,8 @@ module _ {D : Type 0}
       → (status ≡ make_status f) ⊎ (status ≡ Port)
       → Demonstrates g set next old new status
   demo_unmade f mid new status gives untouched makes making tells sized silent either = record {
-    runs = λ t none.
-        let free : Gives {A = Unit {0}} (Err f) None =
+        runs = λ t. record {
+          lives = λ none. let free : Gives {A = Unit {0}} (Err f) None =
         subst (λ (said : Option MakeFault). Gives {A = Unit {0}} (Err f) said) none gives in
         let same = silent (early_silent f free) in
         let early : IsEarly status = subst IsEarly (sym same.1) (made_early f free) in
@@ -226,8 +229,7 @@ module _ {D : Type 0}
         inl (untouched_stays g only_now size old mid
         (untouched (memory_of_none f (sym same.1 ∙ memory)))))
         (making t)));
-    refused = λ t fault is.
-        let by : Gives {A = Unit {0}} (Err f) (Some fault) =
+          refused = λ fault is. let by : Gives {A = Unit {0}} (Err f) (Some fault) =
         subst (λ (said : Option MakeFault). Gives {A = Unit {0}} (Err f) said) is gives in
         let before : mid ≡ old = untouched (not_of_disk f fault by) in
         elim (cases_Bool (is_silent f)) [
@@ -250,7 +252,19 @@ module _ {D : Type 0}
               (λ (x : MakeFault). Tells g (make_line x) (make_status x) mid new status) same
               (tells t))
         ];
-    small = λ less.
+        };
+        writes = λ t. record {
+          touches = let told = tells t in
+        changes_then g _ old mid new (making_made mid makes)
+        (changes_telling g _ _ mid new sized (λ t. told.seen) (λ t. told.crash)
+        (λ t. told.time));
+          in_turn = let told = tells t in
+        inr (changes_as g Fresh old new t
+        (changes_then g Fresh old mid new (changes_touches g Fresh old mid makes)
+        (changes_telling g _ _ mid new sized (λ t. told.seen) (λ t. told.crash)
+        (λ t. told.time))));
+        };
+        small = λ less.
         let by : Gives {A = Unit {0}} (Err f) (Some (make.TooSmall 6152 size)) =
         subst (λ (said : Option MakeFault). Gives {A = Unit {0}} (Err f) said)
         (small_refused set 0 65536 size less) gives in
@@ -259,24 +273,13 @@ module _ {D : Type 0}
         ⊎_elim (λ none. inl (is ∙ none)) (λ memory. inr (inr (is ∙ memory)))
         (made_small f 6152 size by))
         (λ port. inr (inl port)) either;
-    touches = λ t.
-        let told = tells t in
-        changes_then g _ old mid new (making_made mid makes)
-        (changes_telling g _ _ mid new sized (λ t. told.seen) (λ t. told.crash)
-        (λ t. told.time));
-    writes = λ t.
-        let told = tells t in
-        inr (changes_as g Fresh old new t
-        (changes_then g Fresh old mid new (changes_touches g Fresh old mid makes)
-        (changes_telling g _ _ mid new sized (λ t. told.seen) (λ t. told.crash)
-        (λ t. told.time))));
-    quiet = λ t.
+        quiet = λ t.
         let told = tells t in
         record {
           left = told.left ∙ makes.quiet.left t;
           heard = told.heard ∙ makes.quiet.heard t;
         };
-  }
+      }
 
   -- it is made
   module _ (mid : D)
@@ -330,8 +333,9 @@ module _ {D : Type 0}
         → Adds g.moment g.outcomes mid now (LeavesSame (g.told mid) (g.size mid) (g.seen mid)))
         → Demonstrates g set next old now status
     demo_unopened now status early unwritten opens time = record {
-      runs = λ t none.
-          inr (opening_failed g only_now size 0 set 0 65536 old mid now status (early t)
+        runs = λ t. record {
+          lives = λ none.
+              inr (opening_failed g only_now size 0 set 0 65536 old mid now status (early t)
           (makes.quiet.told t) (quiet_there t now (opens t)).told (unwritten t)
           (made t) (rest t) (making t)
           (subst
@@ -339,17 +343,19 @@ module _ {D : Type 0}
           IsAtRest g mid
           → Adds g.moment g.outcomes mid now (LeavesSame (g.told mid) n (g.seen mid)))
           makes.quiet.size (time t)));
-      refused = λ t fault is. not_refused fault is;
-      small = λ less.
+          refused = λ fault is. not_refused fault is;
+        };
+        writes = λ t. record {
+          touches = making_fresh g set size IsOfAll old now (fresh_opened t now (opens t));
+          in_turn = inr (changes_as g Fresh old now t (fresh_opened t now (opens t)));
+        };
+        small = λ less.
           not_refused (make.TooSmall 6152 size) (small_refused set 0 65536 size less);
-      touches = λ t.
-          making_fresh g set size IsOfAll old now (fresh_opened t now (opens t));
-      writes = λ t. inr (changes_as g Fresh old now t (fresh_opened t now (opens t)));
-      quiet = λ t. record {
+        quiet = λ t. record {
         left = (quiet_there t now (opens t)).left ∙ makes.quiet.left t;
         heard = (quiet_there t now (opens t)).heard ∙ makes.quiet.heard t;
       };
-    }
+      }
 
     -- and is opened, and lives
     module _ (d : Device) (now new : D) (r : Result Device Status)
@@ -427,7 +433,8 @@ module _ {D : Type 0}
 
       pub demo_lives : Demonstrates g set next old new (status_in r)
       demo_lives = record {
-        runs = λ t none. inl (record {
+        runs = λ t. record {
+          lives = λ none. inl (record {
           status_is = ends_are r c.ends lived.stop (lived.ends t);
           items = record {
             front =
@@ -464,23 +471,24 @@ module _ {D : Type 0}
                     s.settled ((let by = opened t in by.settled) (rest t));
               };
         });
-        refused = λ t fault is. not_refused fault is;
-        small = λ less.
-            not_refused (make.TooSmall 6152 size) (small_refused set 0 65536 size less);
-        touches = λ t.
-            made_served g set size IsOfAll old mid new (made t) (version t)
+          refused = λ fault is. not_refused fault is;
+        };
+        writes = λ t. record {
+          touches = made_served g set size IsOfAll old mid new (made t) (version t)
             (changes_touches g _ old mid makes)
             (served_changes g size IsOfAll d mid now new t (represents t)
             (opens_there now (opens t))
             (lived.changes t));
-        writes = λ t.
-            subst
+          in_turn = subst
             (λ (l : List Order). WritesLife g Fresh size first l old new)
             (orders_are t)
             (writes_made g Fresh size d first _ old now new t sized (represents t) (first_is t)
             (fresh_opened t now (opens t))
             (λ before. (let by = opened t in by.settled) (rest t))
             (let wrote = p.writes t in wrote.all));
+        };
+        small = λ less.
+            not_refused (make.TooSmall 6152 size) (small_refused set 0 65536 size less);
         quiet = λ t.
             let lives = lived.quiet t in
             record {

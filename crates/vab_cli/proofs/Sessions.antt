@@ -462,7 +462,7 @@ module _ {D : Type 0} (g : Ghosts D) (size : ℕ) where
       → (Fails → IsEarly status)
       → (status ≡ Disk → ⊥)
       → (status ≡ Port → ⊥)
-      → AnswersAll g turns first old new status ⊎ (status ≡ NoMemory)
+      → AnswersAll g old new status turns first ⊎ (status ≡ NoMemory)
   completed Else turns first old new status (inl runs) early disk port =
       let held = held_of status disk port in
       inl (record {

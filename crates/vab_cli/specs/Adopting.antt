@@ -1,18 +1,16 @@
 -- The verb `adopt`.
 use Rattle.std.specs.Prelude.{◌≡◌, ℕ, Bool, true, false, List, [], length, codes, Some, None, Ok}
 use Rattle.vab_disk.specs.declared.disk.Disk.{Ghosts}
-use Rattle.vab_disk.specs.Calls.{Changes}
 use Rattle.vab_device.specs.declared.fault.StartFault.{StartFault}
 use Rattle.vab_device.specs.declared.fault.StartFault.TheVariants as start
 use Rattle.vab_device.specs.Mounted.{Mounted}
 use Rattle.vab_adopt.specs.declared.fault.AdoptFault.{AdoptFault}
 use Rattle.vab_adopt.specs.declared.fault.AdoptFault.TheVariants.{AlreadyDevice, NoDevice}
 use Rattle.vab_adopt.specs.Adopted.{adopted, adopt_refusal, blocks_in, images_of}
-use Rattle.vab_adopt.specs.Adopting.{IsOfAdopting, LeavesAdopting}
+use Rattle.vab_adopt.specs.Adopting.{LeavesAdopting}
 use Rattle.vab_lines.specs.Lines.{adopted_line}
 use Rattle.vab_cli.specs.declared.status.Status.{Status}
 use Rattle.vab_cli.specs.Codes.{adopt_status}
-use Rattle.vab_cli.specs.Counts.{HearsNothing}
 use Rattle.vab_cli.specs.Runs.{IsFailed, RunsGiving, RunsUnwritten}
 use Rattle.vab_cli.specs.Verbs.{line, none_line}
 
@@ -67,20 +65,14 @@ module _ {D : Type 0} (g : Ghosts D) where
       RunsGiving g size (LeavesAdopting (g.told old) size slot (g.seen old)) (λ image. Unit {0})
       first (done_adopting slot first) old new status
 
+  -- The disk is adopted, and that is told. Or it isn't, and that is told: nothing is written,
+  -- whatever fails.
   pub record Adopts (slot : ℕ) (old new : D) (status : Status) : Type 0 where
-    -- The disk is adopted, and that is told.
-    pub adopts : g.is_modelled
-        → (first : Mounted)
+    pub adopts : (first : Mounted)
         → adopted (g.size old) slot (g.seen old) ≡ Ok first
         → adopt_refusal (g.size old) slot (g.seen old) ≡ None
         → RunsAdopting (g.size old) slot first old new status
-    -- It isn't, and that is told: nothing is written, whatever fails.
-    pub refused : g.is_modelled
-        → (fault : AdoptFault)
+    pub refused : (fault : AdoptFault)
         → adopt_refusal (g.size old) slot (g.seen old) ≡ Some fault
         → RunsUnwritten g (g.size old) IsFailed (adopt_line fault) (adopt_status fault) old new
         status
-    -- It writes the sectors of the boot control and of the mark, and nothing of `super`.
-    pub touches : g.is_modelled → Changes g (IsOfAdopting slot (g.seen old)) old new
-    -- It hears nothing.
-    pub quiet : g.is_modelled → HearsNothing g old new

@@ -89,33 +89,35 @@ EndsSmall status = (status ≡ NotADevice) ⊎ ((status ≡ Port) ⊎ (status �
 
 module _ {D : Type 0} (g : Ghosts D) (set next : List SetImage) (old new : D) (status : Status)
   where
-    pub record Demonstrates : Type 0 where
-      -- A device is made of a set and lives: each line that is told closes an item. Or the disk
-      -- failed or memory was refused while it was made or opened.
-      pub runs : g.is_modelled
-          → refusal_of set 0 65536 (g.size old) ≡ None
+    -- A device is made of a set and lives: each line that is told closes an item. Or the disk
+    -- failed or memory was refused while it was made or opened. Or it isn't made, and that is told:
+    -- nothing is written.
+    pub record RunsLife : Type 0 where
+      pub lives : refusal_of set 0 65536 (g.size old) ≡ None
           → RunsActs g (g.size old)
           (LeavesMaking (g.told old) set 0 65536 (g.size old) (g.seen old))
           (made_device_of set 0 65536 (g.size old))
           (life_of set next (g.size old))
           old new status
           ⊎ FailsMaking g (g.size old) set 0 65536 old new status
-      -- It isn't made, and that is told: nothing is written.
-      pub refused : g.is_modelled
-          → (fault : MakeFault)
+      pub refused : (fault : MakeFault)
           → refusal_of set 0 65536 (g.size old) ≡ Some fault
           → RunsRefused g (g.size old) (make_line fault) (make_status fault) old new status
-      -- On too few sectors it ends so, over any port.
-      pub small : g.size old < 6152 → EndsSmall status
-      -- It writes what making does, and what commands on that device may.
-      pub touches : g.is_modelled → Changes g (IsOfMade set IsOfAll (g.size old)) old new
-      -- What it writes is what making does, and then what the commands of its life write in turn,
-      -- from the made device: one that changes the device what it writes there, and each other
-      -- nothing.
-      pub writes : g.is_modelled
-          → WritesLife g (InSectors (IsOfMaking set 65536)) (g.size old)
+
+    -- It writes what making does, and what commands on that device may; and that is what making
+    -- does, and then what the commands of its life write in turn, from the made device: one that
+    -- changes the device what it writes there, and each other nothing.
+    pub record WritesDemo : Type 0 where
+      pub touches : Changes g (IsOfMade set IsOfAll (g.size old)) old new
+      pub in_turn : WritesLife g (InSectors (IsOfMaking set 65536)) (g.size old)
           (made_device_of set 0 65536 (g.size old))
           (orders_of set next (g.size old)) old new
+
+    pub record Demonstrates : Type 0 where
+      pub runs : g.is_modelled → RunsLife
+      pub writes : g.is_modelled → WritesDemo
+      -- On too few sectors it ends so, over any port.
+      pub small : g.size old < 6152 → EndsSmall status
       -- It hears nothing.
       pub quiet : g.is_modelled → HearsNothing g old new
 

@@ -23,7 +23,7 @@ use Rattle.vab_cli.specs.declared.status.Status.TheVariants.{Done, Malformed, Di
 use Rattle.vab_input.specs.HearsToEnd.{HearsWithin}
 use Rattle.vab_cli.specs.Codes.{reply_status}
 use Rattle.vab_cli.specs.Counts.{HearsNothing, HearsUnless}
-use Rattle.vab_cli.specs.Runs.{Held, RunsItem, RunsShort, RunsNone, FailsBefore}
+use Rattle.vab_cli.specs.Runs.{Held, RunsItem, RunsShort, RunsOpened, FailsBefore}
 use Rattle.vab_cli.specs.Touched.{IsOfServing}
 use Rattle.vab_cli.specs.Verbs.{line, line_item, none_line, refused_line}
 use Rattle.vab_cli.specs.Written.{WritesInstall}
@@ -72,53 +72,42 @@ module _ {D : Type 0} (g : Ghosts D) (old new : D) (status : Status) where
       ⊎ RunsShort g (g.size old) s item old new status
       ⊎ FailsBefore g (g.size old) s old new status
 
-  pub record Installs : Type 0 where
-    -- Of an input that spells a set, over a disk that is a device: begin, for each image the size
-    -- of its partition, its store and its bytes, finish, and the target set active; until one of
-    -- them is refused. Each cut of power leaves one of the devices between them.
-    pub item : g.is_modelled
-        → (set : List SetImage)
+  -- Of an input that spells a set: begin, for each image the size of its partition, its store and
+  -- its bytes, finish, and the target set active; until one of them is refused. Each cut of power
+  -- leaves one of the devices between them. Of another input: status 3, and nothing is told or
+  -- changed.
+  pub record RunsInstall (s : Mounted) : Type 0 where
+    pub item : (set : List SetImage)
         → length (g.input_left old) ≤ 2 ^ 32
         → set_of (g.input_left old) ≡ Ok set
-        → (s : Mounted)
-        → IsIn (g.size old) s (g.seen old)
         → RunsOrFails s (install_item s set) (install_status s set)
-    -- Of another input: status 3, and nothing is told or changed.
-    pub malformed : g.is_modelled
-        → (2 ^ 32 < length (g.input_left old))
+    pub malformed : (2 ^ 32 < length (g.input_left old))
         ⊎ ((fault : SetFault) × (set_of (g.input_left old) ≡ Err fault))
-        → (s : Mounted)
-        → IsIn (g.size old) s (g.seen old)
         → RunsOrFails s (line_item s []) Malformed
-    -- Over a disk that is no device: `not a device`, status 5, and nothing is heard or written.
-    pub none : g.is_modelled
-        → (fault : StartFault)
-        → device (g.size old) (g.seen old) ≡ Err fault
-        → RunsNone g (g.size old) none_line old new status
-    pub unheard : g.is_modelled
-        → (fault : StartFault)
+
+  -- It writes what opening may, and what the commands of a session may that merge nothing; and that
+  -- is what opening may, and then what its commands write in turn: one that changes the device what
+  -- it writes there, and each other nothing, also where the disk fails.
+  pub record WritesSet : Type 0 where
+    pub touches : Changes g (IsOfServing IsOfCommands (g.size old) (g.seen old)) old new
+    pub in_turn : (set : List SetImage)
+        → set_of (g.input_left old) ≡ Ok set
+        → WritesInstall g (IsOfOpening (g.size old) (g.seen old)) (g.size old) set old new
+
+  -- Over a device the input is heard to its end, where it isn't too long, and where it is done
+  -- surely; over none nothing is heard, and never anything beyond the end.
+  pub record HearsSet : Type 0 where
+    pub unheard : (fault : StartFault)
         → device (g.size old) (g.seen old) ≡ Err fault
         → HearsNothing g old new
-    -- Over a device the input is heard to its end, where it isn't too long, and whatever comes of
-    -- it not beyond that.
-    pub heard : g.is_modelled
-        → (s : Mounted)
+    pub heard : (s : Mounted)
         → IsIn (g.size old) s (g.seen old)
         → Held status
         → HearsUnless (g.input_left old) (g.heard old) (g.heard new) status
-    pub within : g.is_modelled → HearsWithin (g.heard old) (g.heard new)
-    -- It writes what opening may, and what the commands of a session may that merge nothing.
-    pub touches : g.is_modelled
-        → (s : Mounted)
-        → IsIn (g.size old) s (g.seen old)
-        → Changes g (IsOfServing IsOfCommands (g.size old) (g.seen old)) old new
-    -- What it writes is what opening may, and then what its commands write in turn: one that
-    -- changes the device what it writes there, and each other nothing, also where the disk fails.
-    pub writes : g.is_modelled
-        → (set : List SetImage)
-        → set_of (g.input_left old) ≡ Ok set
-        → (s : Mounted)
-        → IsIn (g.size old) s (g.seen old)
-        → WritesInstall g (IsOfOpening (g.size old) (g.seen old)) (g.size old) set old new
-    -- Where it is done the input was heard to its end.
-    pub end : g.is_modelled → status ≡ Done → g.input_left new ≡ []
+    pub within : HearsWithin (g.heard old) (g.heard new)
+    pub end : status ≡ Done → g.input_left new ≡ []
+
+  pub record Installs : Type 0 where
+    pub runs : g.is_modelled → RunsOpened g (g.size old) none_line RunsInstall old new status
+    pub writes : g.is_modelled → (s : Mounted) → IsIn (g.size old) s (g.seen old) → WritesSet
+    pub hears : g.is_modelled → HearsSet

@@ -287,6 +287,18 @@ module _ {D : Type 0} (g : Ghosts D) (size : ℕ) where
   abbrev pub RunsNone : (line : List ℕ) → (old new : D) → Status → Type 0
   RunsNone line old new status = RunsUnwritten IsFailed line NotADevice old new status
 
+  -- Over a disk that is a device the run does this; over one that is none this line is told, and
+  -- nothing is written.
+  pub record RunsOpened
+      (line : List ℕ)
+      (Does : Mounted → Type 0)
+      (old new : D)
+      (status : Status) : Type 0 where
+    pub opened : (s : Mounted) → IsIn size s (g.seen old) → Does s
+    pub none : (fault : StartFault)
+        → device size (g.seen old) ≡ Err fault
+        → RunsNone line old new status
+
   -- What is asked for is refused, without a call of the disk.
   abbrev pub RunsRefused : (line : List ℕ) → (ends : Status) → (old new : D) → Status → Type 0
   RunsRefused line ends old new status = RunsUnwritten (λ s. s ≡ Port) line ends old new status

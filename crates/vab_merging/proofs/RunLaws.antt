@@ -407,13 +407,15 @@ module _ (d : Device) (size place : ℕ)
               subst (λ (n : ℕ). Represents r.0 n (g.seen new)) (sym size_is)
               (subst (λ (x : Device). Represents x size (g.seen new)) (sym cut)
               (represents_cut (g.seen old) (represents t) r.1 most (g.seen new) few
-              (runs.merged t (scanned (g.seen old) (represents t))) ((sectors (Ok r) runs).seen t)));
+              (runs.merged t (scanned (g.seen old) (represents t)))
+              ((sectors (Ok r) runs).seen t)));
           means = λ t. (
             within_left r.1 few,
             ap left_in cut ∙ left_cut d place r.1 count,
             ap (λ (x : Device). mounted_on x (g.seen new)) cut
                 ∙ mounted_cut (g.seen old) (represents t) r.1 most (g.seen new) few
-                (runs.merged t (scanned (g.seen old) (represents t))) ((sectors (Ok r) runs).seen t),
+                (runs.merged t (scanned (g.seen old) (represents t)))
+                ((sectors (Ok r) runs).seen t),
           );
           rest = runs.rest;
           quiet = runs.touches.quiet;

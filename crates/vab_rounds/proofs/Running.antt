@@ -35,7 +35,7 @@ use Rattle.vab_cli.specs.declared.status.Status.TheVariants.{Done, Malformed}
 use Rattle.vab_cli.specs.Adopting.{adopt_line, done_adopting}
 use Rattle.vab_cli.specs.Installing.{install_item, install_status, RunsOrFails}
 use Rattle.vab_cli.specs.Paging.{page_item}
-use Rattle.vab_cli.specs.Program.{DoesVerb}
+use Rattle.vab_cli.specs.Program.{DoesVerb, Runs, RunsOf}
 use Rattle.vab_cli.specs.Runs.{RunsSession, FailsBefore, LeavesFirst, LeavesTelling}
 use Rattle.vab_cli.specs.Verbs.{command_of, done_making, line_item}
 use Rattle.vab_rounds.specs.Rounds.{Run, Serves, Carries, Installs, Tells, Lives, items_in}
@@ -102,6 +102,12 @@ module _ {D : Type 0}
         stands = subst (λ (i : Image). IsIn (g.size old) first i) (sym left.1) is;
       }
 
+  -- what a run of these words does
+  runs_as : (n : Meaning) → m ≡ n → DoesVerb g m old new status → Runs g old new status n
+  runs_as n words does =
+      (let named = subst (λ (x : Meaning). DoesVerb g x old new status) words does in
+      named.runs modelled)
+
   abbrev Round : Mounted → Type 0
   Round first = LeavesRound m (g.size old) (g.input_left old) first (g.told old) o
 
@@ -149,13 +155,13 @@ module _ {D : Type 0}
   command : (c : Command) (first : Mounted)
       → command_of m ≡ Some c
       → IsIn (g.size old) first (g.seen old)
-      → DoesVerb g m old new status
+      → RunsOf g old new status (Some c)
       → Round first
   command c first some is does =
       ⊎_elim
       (λ runs. round_of first (Carries c) some (certain (runs.items.every_cut rest o at)))
       (λ fails. failed first fails)
-      (does.item modelled c some first is)
+      (does.opened first is)
 
   -- one item, where it is that of a run
   same_crash : (first : Mounted) (run : Run) (i : Item Mounted)
@@ -198,7 +204,7 @@ module _ {D : Type 0}
       → Round first
   not_a_set first words is bad does =
       item first (Tells []) Malformed (inl refl) (line_item first []) refl refl refl
-      ((does.install words).malformed modelled bad first is)
+      (((runs_as Install words does).opened first is).malformed bad)
 
   by_set : (first : Mounted)
       → m ≡ Install
@@ -211,7 +217,7 @@ module _ {D : Type 0}
   by_set first words is does fits (Ok set) spelled =
       item first (Installs set) (install_status first set)
       (words, spelled) (install_item first set) refl refl refl
-      ((does.install words).item modelled set fits spelled first is)
+      (((runs_as Install words does).opened first is).item set fits spelled)
   by_set first words is does fits (Err fault) spelled =
       not_a_set first words is (inr (fault, spelled)) does
 
@@ -234,7 +240,7 @@ module _ {D : Type 0}
   paged first words is does =
       item first (Tells (page first.state)) Done (inr (inl (words, refl))) (page_item first)
       refl refl refl
-      ((does.tells words).item modelled first is)
+      ((runs_as Page words does).opened first is)
 
   served : (fresh : Bool) (turns : ℕ) (first : Mounted)
       → m ≡ Serve fresh turns
@@ -247,7 +253,7 @@ module _ {D : Type 0}
       ⊎_elim
       (λ runs. certain (session false turns (λ o. ⊥) first serves runs))
       (λ fails. failed first fails)
-      (does.serve modelled turns serves first is)
+      ((runs_as (Serve false turns) serves does).opened first is)
 
   -- a device isn't adopted
   unadopted : (slot : ℕ) (first : Mounted)
@@ -256,7 +262,7 @@ module _ {D : Type 0}
       → DoesVerb g m old new status
       → Round first
   unadopted slot first words is does =
-      let refused = (does.adopt slot words).refused modelled AlreadyDevice
+      let refused = (runs_as (Adopt slot) words does).refused AlreadyDevice
       (already_refused (g.size old) slot (g.seen old) first is) in
       refusal_told slot first words is (refused.every_cut rest o at)
 
@@ -274,21 +280,24 @@ module _ {D : Type 0}
       served fresh turns first words none is does
   by_words first is does Install words none = installed first words is does
   by_words first is does Boot words none =
-      command commands.Boot first (ap command_of words) is does
+      command commands.Boot first (ap command_of words) is (runs_as Boot words does)
   by_words first is does Mark words none =
-      command commands.Mark first (ap command_of words) is does
+      command commands.Mark first (ap command_of words) is (runs_as Mark words does)
   by_words first is does BeginMerge words none =
-      command commands.BeginMerge first (ap command_of words) is does
+      command commands.BeginMerge first (ap command_of words) is (runs_as BeginMerge words does)
   by_words first is does (Merge blocks) words none =
-      command (commands.Merge blocks) first (ap command_of words) is does
+      command (commands.Merge blocks) first (ap command_of words) is
+      (runs_as (Merge blocks) words does)
   by_words first is does Cancel words none =
-      command commands.Cancel first (ap command_of words) is does
+      command commands.Cancel first (ap command_of words) is (runs_as Cancel words does)
   by_words first is does (Activate slot) words none =
-      command (commands.SetActive slot) first (ap command_of words) is does
+      command (commands.SetActive slot) first (ap command_of words) is
+      (runs_as (Activate slot) words does)
   by_words first is does (Print name) words none =
-      command (commands.Print name) first (ap command_of words) is does
+      command (commands.Print name) first (ap command_of words) is (runs_as (Print name) words does)
   by_words first is does (Digest name) words none =
-      command (commands.Digest name) first (ap command_of words) is does
+      command (commands.Digest name) first (ap command_of words) is
+      (runs_as (Digest name) words does)
   by_words first is does Page words none = paged first words is does
   by_words first is does (Demo seed scale) words none = absurd none
 
@@ -323,7 +332,7 @@ module _ {D : Type 0}
       (inr (inr (inr (set, (limit, max, inl (words, fits, spelled, none)), refl))))
       crash))
       (λ early. inr early)
-      ((does.made modelled limit max words set fits spelled none).every_cut rest o at)
+      (((runs_as (Make limit max) words does).made set fits spelled none).every_cut rest o at)
 
   of_these : (is set : List SetImage) (limit max : ℕ)
       → set ≡ is
@@ -348,7 +357,7 @@ module _ {D : Type 0}
       (made_device_of [] 0 65536 (g.size old))
       words runs)
       (λ fails. inr (fails.every_cut rest o at))
-      (does.fresh modelled turns words enough)
+      ((runs_as (Serve true turns) words does).enough enough)
 
   demonstrated : (seed scale : ℕ)
       → m ≡ Demo seed scale
@@ -366,7 +375,7 @@ module _ {D : Type 0}
       (λ early. inr early)
       (runs.items.every_cut rest o at))
       (λ fails. inr (fails.every_cut rest o at))
-      ((does.demo seed scale words).runs modelled none)
+      ((runs_as (Demo seed scale) words does).lives none)
 
   -- a disk that is adopted
   pub adopting_is_round : IsRun g m old new status
@@ -384,7 +393,7 @@ module _ {D : Type 0}
       (λ crash. inl (round_of first (Tells (done_adopting slot first))
       (inr (inr (inl (slot, words, inr refl)))) crash))
       (λ early. inr early)
-      (((does.adopt slot words).adopts modelled first is none).every_cut rest o at)
+      (((runs_as (Adopt slot) words does).adopts first is none).every_cut rest o at)
 
   pub making_is_round : IsRun g m old new status
       → (set : List SetImage) (limit max : ℕ)

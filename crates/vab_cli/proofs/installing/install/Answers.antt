@@ -48,27 +48,31 @@ returns-in-Err-clause-runs g c =
     let mid = c.open.new.port in
     let size = g.P.Disk.size old in
     record {
-      item = λ t set fits is s stands. inr (inr (c.in-Err.ensures.early t s stands));
-      malformed = λ t bad s stands. inr (inr (c.in-Err.ensures.early t s stands));
-      none = λ t fault none. c.in-Err.ensures.none t fault none;
-      unheard = λ t fault none. c.open.ensures.quiet t;
-      heard = λ t s stands held port memory.
-          (let early = c.in-Err.ensures.early t s stands in
-          early_unheld early.early held memory);
-      within = λ t.
-          (let quiet = c.open.ensures.quiet t in
-          within_none (g.P.Disk.heard old) (g.P.Disk.heard mid) quiet.heard);
-      touches = λ t s stands.
-          changes_wider g.P.Disk (IsOfServing IsOfCommands size (g.P.Disk.seen old))
+      runs = λ t. record {
+        opened = λ s stands. record {
+          item = λ set fits is. inr (inr (c.in-Err.ensures.early t s stands));
+          malformed = λ bad. inr (inr (c.in-Err.ensures.early t s stands));
+        };
+        none = λ fault none. c.in-Err.ensures.none t fault none;
+      };
+      writes = λ t s stands. record {
+        touches = changes_wider g.P.Disk (IsOfServing IsOfCommands size (g.P.Disk.seen old))
           (IsOfOpening size (g.P.Disk.seen old)) old mid (c.open.ensures.changes t)
           (λ n x w. inl w);
-      writes = λ t set is s stands.
-          inr (changes_as g.P.Disk (IsOfOpening size (g.P.Disk.seen old)) old mid t
+        in_turn = λ set is.
+            inr (changes_as g.P.Disk (IsOfOpening size (g.P.Disk.seen old)) old mid t
           (c.open.ensures.changes t));
-      end = λ t done.
-          absurd
+      };
+      hears = λ t. record {
+        unheard = λ fault none. c.open.ensures.quiet t;
+        heard = λ s stands held port memory. (let early = c.in-Err.ensures.early t s stands in
+          early_unheld early.early held memory);
+        within = (let quiet = c.open.ensures.quiet t in
+          within_none (g.P.Disk.heard old) (g.P.Disk.heard mid) quiet.heard);
+        end = λ done. absurd
           (opening_undone g.P.Disk none_line old mid c.in-Err.status (c.in-Err.ensures.early t)
           (c.in-Err.ensures.none t) done);
+      };
     }
 
 pub returns-in-Err-hear_all-clause-runs : goal.returns-in-Err-hear_all-clause-runs
@@ -85,8 +89,10 @@ returns-in-Err-hear_all-clause-runs g c =
     (c.hear_all.ensures.told t) (c.hear_all.ensures.seen t)
     (c.hear_all.ensures.crash t) (c.hear_all.ensures.time t) in
     record {
-      item = λ t set fits is s stands.
-          unheard_before g.P.Disk g.met.P.Disk.only_now old now s stands (same t)
+      runs = λ t. record {
+        opened = λ s stands. record {
+          item = λ set fits is.
+              unheard_before g.P.Disk g.met.P.Disk.only_now old now s stands (same t)
           (install_item s set) (inl refl) (inl (install_long s set)) (install_status s set)
           fault status c.from.ensures
           (λ long.
@@ -94,37 +100,41 @@ returns-in-Err-hear_all-clause-runs g c =
           let left : g.P.Disk.input_left mid ≡ g.P.Disk.input_left old = opens.left in
           omega (arith, fits, c.in-Err-hear_all.ensures.long t (ap Err long), ap length left))
           (held_reply (install_effect s set).reply);
-      malformed = λ t bad s stands.
-          unheard_malformed g.P.Disk g.met.P.Disk.only_now old now s stands (same t)
+          malformed = λ bad.
+              unheard_malformed g.P.Disk g.met.P.Disk.only_now old now s stands (same t)
           fault status c.from.ensures;
-      none = λ t fault none. absurd (c.in-Ok.ensures.found t fault none);
-      unheard = λ t fault none. absurd (c.in-Ok.ensures.found t fault none);
-      heard = λ t s stands held.
-          (let opens = c.in-Ok.ensures.opens t in
+        };
+        none = λ fault none. absurd (c.in-Ok.ensures.found t fault none);
+      };
+      writes = λ t s stands. record {
+        touches =
+            changes_then g.P.Disk (IsOfServing IsOfCommands size (g.P.Disk.seen old)) old mid now
+          (changes_wider g.P.Disk (IsOfServing IsOfCommands size (g.P.Disk.seen old))
+          (IsOfOpening size (g.P.Disk.seen old)) old mid (c.open.ensures.changes t)
+          (λ n x w. inl w))
+          (changes_hearing g.P.Disk _ mid now c.hear_all.ensures.size c.hear_all.ensures.seen
+          c.hear_all.ensures.crash c.hear_all.ensures.time);
+        in_turn = λ set is.
+            inr (changes_as g.P.Disk (IsOfOpening size (g.P.Disk.seen old)) old now t
+          (changes_then g.P.Disk (IsOfOpening size (g.P.Disk.seen old)) old mid now
+          (c.open.ensures.changes t)
+          (changes_hearing g.P.Disk _ mid now c.hear_all.ensures.size c.hear_all.ensures.seen
+          c.hear_all.ensures.crash c.hear_all.ensures.time)));
+      };
+      hears = λ t. record {
+        unheard = λ fault none. absurd (c.in-Ok.ensures.found t fault none);
+        heard = λ s stands held. (let opens = c.in-Ok.ensures.opens t in
           heard_from (g.P.Disk.input_left old) (g.P.Disk.input_left mid) (g.P.Disk.heard old)
           (g.P.Disk.heard mid) (g.P.Disk.heard now) status opens.left opens.heard
           (unheard_whole fault (g.P.Disk.input_left mid) (g.P.Disk.heard mid)
           (g.P.Disk.heard now) status c.from.ensures
           (λ long. c.in-Err-hear_all.ensures.long t (ap Err long))
           (λ long. c.in-Err-hear_all.ensures.over t (ap Err long))));
-      within = λ t.
-          (let opens = c.in-Ok.ensures.opens t in
+        within = (let opens = c.in-Ok.ensures.opens t in
           subst (λ (l : List Hearing). HearsWithin l (g.P.Disk.heard now)) opens.heard
           (c.hear_all.ensures.within t));
-      touches = λ t s stands.
-          changes_then g.P.Disk (IsOfServing IsOfCommands size (g.P.Disk.seen old)) old mid now
-          (changes_wider g.P.Disk (IsOfServing IsOfCommands size (g.P.Disk.seen old))
-          (IsOfOpening size (g.P.Disk.seen old)) old mid (c.open.ensures.changes t)
-          (λ n x w. inl w))
-          (changes_hearing g.P.Disk _ mid now c.hear_all.ensures.size c.hear_all.ensures.seen
-          c.hear_all.ensures.crash c.hear_all.ensures.time);
-      writes = λ t set is s stands.
-          inr (changes_as g.P.Disk (IsOfOpening size (g.P.Disk.seen old)) old now t
-          (changes_then g.P.Disk (IsOfOpening size (g.P.Disk.seen old)) old mid now
-          (c.open.ensures.changes t)
-          (changes_hearing g.P.Disk _ mid now c.hear_all.ensures.size c.hear_all.ensures.seen
-          c.hear_all.ensures.crash c.hear_all.ensures.time)));
-      end = λ t done. absurd (input_undone fault (sym c.from.ensures ∙ done));
+        end = λ done. absurd (input_undone fault (sym c.from.ensures ∙ done));
+      };
     }
 
 pub returns-in-Err-read_set-clause-runs : goal.returns-in-Err-read_set-clause-runs
@@ -141,8 +151,9 @@ returns-in-Err-read_set-clause-runs g c =
     (c.hear_all.ensures.told t) (c.hear_all.ensures.seen t)
     (c.hear_all.ensures.crash t) (c.hear_all.ensures.time t) in
     record {
-      item = λ t set fits is s stands.
-          let opens = c.in-Ok.ensures.opens t in
+      runs = λ t. record {
+        opened = λ s stands. record {
+          item = λ set fits is. let opens = c.in-Ok.ensures.opens t in
           let text : c.deref.result.now ≡ g.P.Disk.input_left old =
           c.deref.ensures.value ∙ c.in-Ok-hear_all.ensures.bytes t ∙ opens.left in
           short_before g.P.Disk g.met.P.Disk.only_now old now s stands (same t)
@@ -154,37 +165,40 @@ returns-in-Err-read_set-clause-runs g c =
           (λ (r : Result (List SetImage) SetFault).
           Gives {X = List SetImage} {Y = List SetImage} (λ v. v) (Err fault) r)
           (ap set_of text ∙ is) c.in-Err-read_set.ensures.exact));
-      malformed = λ t bad s stands.
-          unread_before g.P.Disk g.met.P.Disk.only_now old now s stands (same t)
+          malformed = λ bad. unread_before g.P.Disk g.met.P.Disk.only_now old now s stands (same t)
           fault status c.from-in-Err-read_set.ensures;
-      none = λ t fault none. absurd (c.in-Ok.ensures.found t fault none);
-      unheard = λ t fault none. absurd (c.in-Ok.ensures.found t fault none);
-      heard = λ t s stands held.
-          (let opens = c.in-Ok.ensures.opens t in
+        };
+        none = λ fault none. absurd (c.in-Ok.ensures.found t fault none);
+      };
+      writes = λ t s stands. record {
+        touches =
+            changes_then g.P.Disk (IsOfServing IsOfCommands size (g.P.Disk.seen old)) old mid now
+          (changes_wider g.P.Disk (IsOfServing IsOfCommands size (g.P.Disk.seen old))
+          (IsOfOpening size (g.P.Disk.seen old)) old mid (c.open.ensures.changes t)
+          (λ n x w. inl w))
+          (changes_hearing g.P.Disk _ mid now c.hear_all.ensures.size c.hear_all.ensures.seen
+          c.hear_all.ensures.crash c.hear_all.ensures.time);
+        in_turn = λ set is.
+            inr (changes_as g.P.Disk (IsOfOpening size (g.P.Disk.seen old)) old now t
+          (changes_then g.P.Disk (IsOfOpening size (g.P.Disk.seen old)) old mid now
+          (c.open.ensures.changes t)
+          (changes_hearing g.P.Disk _ mid now c.hear_all.ensures.size c.hear_all.ensures.seen
+          c.hear_all.ensures.crash c.hear_all.ensures.time)));
+      };
+      hears = λ t. record {
+        unheard = λ fault none. absurd (c.in-Ok.ensures.found t fault none);
+        heard = λ s stands held. (let opens = c.in-Ok.ensures.opens t in
           heard_from (g.P.Disk.input_left old) (g.P.Disk.input_left mid) (g.P.Disk.heard old)
           (g.P.Disk.heard mid) (g.P.Disk.heard now) status opens.left opens.heard
           (λ port memory.
           heard_whole (g.P.Disk.input_left mid) _ (g.P.Disk.heard mid) (g.P.Disk.heard now)
           (c.in-Ok-hear_all.ensures.bytes t) c.in-Ok-hear_all.ensures.fits
           (c.in-Ok-hear_all.ensures.heard t)));
-      within = λ t.
-          (let opens = c.in-Ok.ensures.opens t in
+        within = (let opens = c.in-Ok.ensures.opens t in
           subst (λ (l : List Hearing). HearsWithin l (g.P.Disk.heard now)) opens.heard
           (c.hear_all.ensures.within t));
-      touches = λ t s stands.
-          changes_then g.P.Disk (IsOfServing IsOfCommands size (g.P.Disk.seen old)) old mid now
-          (changes_wider g.P.Disk (IsOfServing IsOfCommands size (g.P.Disk.seen old))
-          (IsOfOpening size (g.P.Disk.seen old)) old mid (c.open.ensures.changes t)
-          (λ n x w. inl w))
-          (changes_hearing g.P.Disk _ mid now c.hear_all.ensures.size c.hear_all.ensures.seen
-          c.hear_all.ensures.crash c.hear_all.ensures.time);
-      writes = λ t set is s stands.
-          inr (changes_as g.P.Disk (IsOfOpening size (g.P.Disk.seen old)) old now t
-          (changes_then g.P.Disk (IsOfOpening size (g.P.Disk.seen old)) old mid now
-          (c.open.ensures.changes t)
-          (changes_hearing g.P.Disk _ mid now c.hear_all.ensures.size c.hear_all.ensures.seen
-          c.hear_all.ensures.crash c.hear_all.ensures.time)));
-      end = λ t done. absurd (set_undone fault (sym c.from-in-Err-read_set.ensures ∙ done));
+        end = λ done. absurd (set_undone fault (sym c.from-in-Err-read_set.ensures ∙ done));
+      };
     }
 
 pub returns-clause-runs : goal.returns-clause-runs
@@ -211,8 +225,9 @@ returns-clause-runs g c =
     (sym (c.hear_all.ensures.seen t)) (c.in-Ok.ensures.represents t) in
     let p = c.install_set.ensures.performs in
     record {
-      item = λ t set fits is s stands.
-          let found : read ≡ set =
+      runs = λ t. record {
+        opened = λ s stands. record {
+          item = λ set fits is. let found : read ≡ set =
           same_set _ _ set read (text t) c.in-Ok-read_set.ensures.exact is in
           let runs = runs_act g.P.Disk g.met.P.Disk.only_now (install_act read)
           (install_is_act read) c.in-Ok.device s old now new c.install_set.result (same t) sized
@@ -230,8 +245,7 @@ returns-clause-runs g c =
           (install_status s x))
           found
           (⊎_elim (λ item. inl item) (λ short. inr (inl short)) runs));
-      malformed = λ t bad s stands.
-          ⊎_elim
+          malformed = λ bad. ⊎_elim
           (λ long.
           absurd (omega (
             arith,
@@ -241,33 +255,18 @@ returns-clause-runs g c =
           )))
           (λ bad. not_both _ _ read bad.0 (text t) c.in-Ok-read_set.ensures.exact bad.1)
           bad;
-      none = λ t fault none. absurd (c.in-Ok.ensures.found t fault none);
-      unheard = λ t fault none. absurd (c.in-Ok.ensures.found t fault none);
-      heard = λ t s stands held.
-          (let opens = c.in-Ok.ensures.opens t in
-          let quiet = p.quiet t in
-          heard_from (g.P.Disk.input_left old) (g.P.Disk.input_left mid) (g.P.Disk.heard old)
-          (g.P.Disk.heard mid) (g.P.Disk.heard new) status opens.left opens.heard
-          (λ port memory.
-          heard_whole (g.P.Disk.input_left mid) _ (g.P.Disk.heard mid) (g.P.Disk.heard new)
-          (c.in-Ok-hear_all.ensures.bytes t) c.in-Ok-hear_all.ensures.fits
-          (subst (λ (l : List Hearing). HearsToEnd (g.P.Disk.heard mid) l) (sym quiet.heard)
-          (c.in-Ok-hear_all.ensures.heard t))));
-      within = λ t.
-          (let opens = c.in-Ok.ensures.opens t in
-          let quiet = p.quiet t in
-          subst (λ (l : List Hearing). HearsWithin (g.P.Disk.heard old) l) (sym quiet.heard)
-          (subst (λ (l : List Hearing). HearsWithin l (g.P.Disk.heard now)) opens.heard
-          (c.hear_all.ensures.within t)));
-      touches = λ t s stands.
-          served_changes g.P.Disk size IsOfCommands c.in-Ok.device old now new t (represents t)
+        };
+        none = λ fault none. absurd (c.in-Ok.ensures.found t fault none);
+      };
+      writes = λ t s stands. record {
+        touches =
+            served_changes g.P.Disk size IsOfCommands c.in-Ok.device old now new t (represents t)
           (changes_then g.P.Disk (IsOfOpening size (g.P.Disk.seen old)) old mid now
           (c.open.ensures.changes t)
           (changes_hearing g.P.Disk _ mid now c.hear_all.ensures.size c.hear_all.ensures.seen
           c.hear_all.ensures.crash c.hear_all.ensures.time))
           (c.install_set.ensures.changes t);
-      writes = λ t set is s stands.
-          let found : read ≡ set =
+        in_turn = λ set is. let found : read ≡ set =
           same_set _ _ set read (text t) c.in-Ok-read_set.ensures.exact is in
           subst
           (λ (x : List SetImage).
@@ -280,8 +279,25 @@ returns-clause-runs g c =
           (changes_hearing g.P.Disk _ mid now c.hear_all.ensures.size c.hear_all.ensures.seen
           c.hear_all.ensures.crash c.hear_all.ensures.time))
           (same t).settled (c.install_set.ensures.writes t));
-      end = λ t done.
-          (let quiet = p.quiet t in quiet.left) ∙ c.in-Ok-hear_all.ensures.end t;
+      };
+      hears = λ t. record {
+        unheard = λ fault none. absurd (c.in-Ok.ensures.found t fault none);
+        heard = λ s stands held. (let opens = c.in-Ok.ensures.opens t in
+          let quiet = p.quiet t in
+          heard_from (g.P.Disk.input_left old) (g.P.Disk.input_left mid) (g.P.Disk.heard old)
+          (g.P.Disk.heard mid) (g.P.Disk.heard new) status opens.left opens.heard
+          (λ port memory.
+          heard_whole (g.P.Disk.input_left mid) _ (g.P.Disk.heard mid) (g.P.Disk.heard new)
+          (c.in-Ok-hear_all.ensures.bytes t) c.in-Ok-hear_all.ensures.fits
+          (subst (λ (l : List Hearing). HearsToEnd (g.P.Disk.heard mid) l) (sym quiet.heard)
+          (c.in-Ok-hear_all.ensures.heard t))));
+        within = (let opens = c.in-Ok.ensures.opens t in
+          let quiet = p.quiet t in
+          subst (λ (l : List Hearing). HearsWithin (g.P.Disk.heard old) l) (sym quiet.heard)
+          (subst (λ (l : List Hearing). HearsWithin l (g.P.Disk.heard now)) opens.heard
+          (c.hear_all.ensures.within t)));
+        end = λ done. (let quiet = p.quiet t in quiet.left) ∙ c.in-Ok-hear_all.ensures.end t;
+      };
     }
 
 -- no fault was met before

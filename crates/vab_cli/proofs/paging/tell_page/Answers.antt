@@ -17,22 +17,25 @@ use Rattle.vab_cli.proofs.paging.tell_page.Goals as goal
 
 pub returns-in-Err-clause-tells : goal.returns-in-Err-clause-tells
 returns-in-Err-clause-tells g c = record {
-  item = λ t s stands. inr (inr (c.in-Err.ensures.early t s stands));
-  none = λ t fault none. c.in-Err.ensures.none t fault none;
-  quiet = λ t. c.open.ensures.quiet t;
-  touches = λ t. c.open.ensures.changes t;
-}
+      runs = λ t. record {
+        opened = λ s stands. inr (inr (c.in-Err.ensures.early t s stands));
+        none = λ fault none. c.in-Err.ensures.none t fault none;
+      };
+      quiet = λ t. c.open.ensures.quiet t;
+      touches = λ t. c.open.ensures.changes t;
+    }
 
 pub returns-in-Err-status_page-clause-tells : goal.returns-in-Err-status_page-clause-tells
 returns-in-Err-status_page-clause-tells g c =
     let old = c.args.port.now in
     let mid = c.open.new.port in
     record {
-      item = λ t s stands.
-          short_before g.P.Disk g.met.P.Disk.only_now old mid s stands
+      runs = λ t. record {
+        opened = λ s stands. short_before g.P.Disk g.met.P.Disk.only_now old mid s stands
           (same_opened g.P.Disk (g.P.Disk.size old) old mid (c.in-Ok.ensures.opens t))
           (page_item s) (inl refl) (inr (λ image at. at)) Done NoMemory refl;
-      none = λ t fault none. absurd (c.in-Ok.ensures.found t fault none);
+        none = λ fault none. absurd (c.in-Ok.ensures.found t fault none);
+      };
       quiet = λ t. c.open.ensures.quiet t;
       touches = λ t. c.open.ensures.changes t;
     }
@@ -53,8 +56,8 @@ returns-in-Ok-say_all-clause-tells g c =
     (subst (λ (n : ℕ). s < n) (sym c.open.ensures.size) lt)
     (g.met.P.Disk.seen_held mid s)).long) in
     record {
-      item = λ t s stands.
-          let opens = c.in-Ok.ensures.opens t in
+      runs = λ t. record {
+        opened = λ s stands. let opens = c.in-Ok.ensures.opens t in
           let here = opened_in g.P.Disk g.met.P.Disk.only_now size old mid s opens stands in
           let is : c.deref.result.now ≡ page s.state =
           text
@@ -75,7 +78,8 @@ returns-in-Ok-say_all-clause-tells g c =
             heard = c.say_all.ensures.heard t;
             time = c.say_all.ensures.time t;
           }))));
-      none = λ t fault none. absurd (c.in-Ok.ensures.found t fault none);
+        none = λ fault none. absurd (c.in-Ok.ensures.found t fault none);
+      };
       quiet = λ t. record {
         left = c.say_all.ensures.left t ∙ (c.open.ensures.quiet t).left;
         heard = c.say_all.ensures.heard t ∙ (c.open.ensures.quiet t).heard;
@@ -103,8 +107,8 @@ returns-clause-tells g c =
     (subst (λ (n : ℕ). s < n) (sym c.open.ensures.size) lt)
     (g.met.P.Disk.seen_held mid s)).long) in
     record {
-      item = λ t s stands.
-          let opens = c.in-Ok.ensures.opens t in
+      runs = λ t. record {
+        opened = λ s stands. let opens = c.in-Ok.ensures.opens t in
           let here = opened_in g.P.Disk g.met.P.Disk.only_now size old mid s opens stands in
           let is : c.deref.result.now ≡ page s.state =
           text
@@ -125,7 +129,8 @@ returns-clause-tells g c =
             heard = c.say_all.ensures.heard t;
             time = c.say_all.ensures.time t;
           }))));
-      none = λ t fault none. absurd (c.in-Ok.ensures.found t fault none);
+        none = λ fault none. absurd (c.in-Ok.ensures.found t fault none);
+      };
       quiet = λ t. record {
         left = c.say_all.ensures.left t ∙ (c.open.ensures.quiet t).left;
         heard = c.say_all.ensures.heard t ∙ (c.open.ensures.quiet t).heard;
