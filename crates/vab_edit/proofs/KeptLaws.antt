@@ -1,6 +1,6 @@
 -- What holds of a kept device with another table and plan of the target.
 use Rattle.std.proofs.Common.{◌≡◌, inl, inr, ℕ, ◌+◌, ◌*◌, ◌≤◌, ◌<◌}
-use Rattle.std.proofs.Common.{Bool, true, false, List, [], ◌∷◌, ◌++◌, get_or, refl, sym}
+use Rattle.std.proofs.Common.{Bool, true, false, List, [], ◌∷◌, ◌++◌, get_or, refl}
 use Rattle.std.proofs.Common.{subst, arith}
 use Rattle.std.specs.Prelude.{map, All, Contains, Option, Some, None}
 use Rattle.std.specs.Prelude.{option_map}
@@ -8,7 +8,7 @@ use Rattle.std.specs.Str.{bytes_eq}
 use Rattle.std.proofs.lemmas.Bool.{cases_Bool}
 use Rattle.std.proofs.lemmas.List.{length-map}
 use Rattle.std.proofs.lemmas.List.Elements.{All-map, All-head, All-tail, All-contains}
-use Rattle.vab_names.specs.Names.{is_of_slot, is_store, store_of}
+use Rattle.vab_names.specs.Names.{is_of_slot, store_of}
 use Rattle.vab_geometry.specs.declared.geometry.Geometry.{Geometry}
 use Rattle.vab_tables.specs.Rules.{cap_of}
 use Rattle.vab_layout.specs.declared.layout.Part.{Part as PartOfLayout}
@@ -17,9 +17,8 @@ use Rattle.vab_layout.specs.Rules.{IsPart as IsPartOfLayout, IsLayout}
 use Rattle.vab_layout.specs.Slots.{own_parts, store_parts, is_updated, IsDistinct}
 use Rattle.vab_layout.specs.Slots.{IsTargetBeside, IsOwnPart}
 use Rattle.vab_builder.proofs.Counting.{pieces_once}
-use Rattle.vab_blocks.proofs.Contained.{of_filter, in_filter}
-use Rattle.vab_names.proofs.NameCases.{store_is_store}
-use Rattle.std.proofs.lemmas.List.Elements.{Contains-append_right, Contains-append_left}
+use Rattle.vab_blocks.proofs.Contained.{of_filter}
+use Rattle.std.proofs.lemmas.List.Elements.{Contains-append_left}
 use Rattle.std.proofs.lemmas.List.Elements.{Contains-get_or}
 use Rattle.vab_device.specs.declared.device.Part.{Part}
 use Rattle.vab_device.specs.declared.device.PartImage.{PartImage}
@@ -29,7 +28,7 @@ use Rattle.vab_device.specs.Kept.{IsPart, AreParts}
 use Rattle.vab_device.specs.Phases.{planned_image, planned_on, plan_of}
 use Rattle.vab_device.specs.Stores.{first_named}
 use Rattle.vab_edit.specs.Carried.{planned_named, written_by, with_written, carried}
-use Rattle.vab_edit.proofs.NamedLaws.{first_is}
+use Rattle.vab_device.proofs.StoreParts.{store_is}
 use Rattle.vab_device.proofs.OwnParts.{length-sectors_of, sectors_distinct, sectors_on, blocks_on}
 
 -- ---- a plan with nothing written
