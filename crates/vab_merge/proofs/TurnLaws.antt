@@ -1,6 +1,6 @@
 -- What a merge leaves, and that the next may follow.
-use Rattle.std.proofs.Common.{◌≡◌, ◌⊎◌, inl, inr, ℕ, ◌-◌, ◌*◌, ◌/◌, ◌≤◌, List, length, take, ◌∙◌}
-use Rattle.std.proofs.Common.{sym, ap, arith, length-take-le}
+use Rattle.std.proofs.Common.{◌≡◌, ◌⊎◌, inl, inr, ℕ, ◌-◌, ◌*◌, ◌/◌, ◌≤◌, ◌<◌, List, length, take}
+use Rattle.std.proofs.Common.{◌∙◌, sym, ap, arith, length-take-le}
 use Rattle.std.proofs.lemmas.Bool.{cases_lt}
 use Rattle.vab_space.specs.Chunks.{entries_in}
 use Rattle.vab_disk.specs.Disk.{Image}
@@ -13,7 +13,7 @@ use Rattle.vab_merge.specs.declared.merge.Ran.TheVariants.{Merged, Empty}
 use Rattle.vab_merge.specs.Copied.{InBlocksOf}
 use Rattle.vab_merge.specs.Cleared.{IsClearing, page_sector}
 use Rattle.vab_merge.specs.Merged.{MayMerge, CanMerge, MayRun, IsRan, dropped_by, IsMerging}
-use Rattle.vab_merge.specs.Merged.{IsMergedSector}
+use Rattle.vab_merge.specs.Merged.{entry_sector}
 use Rattle.vab_merge.proofs.RunLaws.{run_fewer}
 use Rattle.vab_merge.proofs.RunSteps.{may_none}
 
@@ -63,6 +63,17 @@ ran_run k es most Empty is = may_none k es most
 ran_run k es most (Merged n) is = record { run = is.1.run; at_most = is.1.at_most }
 
 -- ---- which sectors are written
+
+-- a sector of the blocks, or of the entry, of an exception that is merged
+pub record IsMergedSector
+    (k : Chunk)
+    (base store : List ℕ)
+    (es : List Exception)
+    (most s : ℕ) : Type 0 where
+  pub place : ℕ
+  pub within : place < length es
+  pub may_run : MayRun k es most (length es - place)
+  pub here : InBlocksOf k base es place s ⊎ (s ≡ entry_sector k store place)
 
 -- a sector in which entries are zeroed is the sector of one of them
 pub merged_sector : (k : Chunk) (base store : List ℕ) (es : List Exception) (most : ℕ)

@@ -65,17 +65,6 @@ pub record LeavesMerged
 abbrev pub entry_sector : Chunk → List ℕ → ℕ → ℕ
 entry_sector k store j = page_sector k store (j / sector_entries)
 
--- a sector of the blocks, or of the entry, of an exception that is merged
-pub record IsMergedSector
-    (k : Chunk)
-    (base store : List ℕ)
-    (es : List Exception)
-    (most s : ℕ) : Type 0 where
-  pub place : ℕ
-  pub within : place < length es
-  pub may_run : MayRun k es most (length es - place)
-  pub here : InBlocksOf k base es place s ⊎ (s ≡ entry_sector k store place)
-
 -- What is written for exceptions that are merged, the last of a run: a sector of the blocks of one;
 -- or one of their entries, as it was but for those from some place on, all of which are zeros.
 pub record IsMerging

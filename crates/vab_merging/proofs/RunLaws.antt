@@ -21,9 +21,9 @@ use Rattle.vab_store.specs.View.{exception_at}
 use Rattle.vab_store.proofs.ViewLaws.{take-at}
 use Rattle.vab_merge.specs.Copied.{InChunk, InBlocksOf}
 use Rattle.vab_merge.specs.Run.{IsLongest}
-use Rattle.vab_merge.specs.Merged.{MayMerge, CanMerge, WithoutLast, IsMergedSector}
-use Rattle.vab_merge.specs.Merged.{entry_sector, IsMerging}
-use Rattle.vab_merge.proofs.TurnLaws.{merged_sector}
+use Rattle.vab_merge.specs.Merged.{MayMerge, CanMerge, WithoutLast, IsMerging}
+use Rattle.vab_merge.specs.Merged.{entry_sector}
+use Rattle.vab_merge.proofs.TurnLaws.{IsMergedSector, merged_sector}
 use Rattle.vab_device.specs.declared.device.Part.{Part}
 use Rattle.vab_device.specs.declared.device.PartImage.{PartImage}
 use Rattle.vab_device.specs.declared.device.PartImage.TheVariants.{Kept, Declared, Written}
@@ -283,8 +283,7 @@ module _ (d : Device) (size place : ℕ)
     module _ (k most : ℕ) (new : Image)
         (few : k ≤ length es)
         (without : WithoutLast chunk part.map (store_in part) es k old new)
-        (but : SameBut (InSectors (IsMergedSector chunk part.map (store_in part) es most))
-        old new) where
+        (but : SameBut (IsMerging chunk part.map (store_in part) es most old) old new) where
       stay : (s : ℕ)
           → (Touched d size old i single rules place p runs_here.may.fits s → ⊥)
           → new s ≡ old s
@@ -292,7 +291,8 @@ module _ (d : Device) (size place : ℕ)
           ⊎_elim (λ same. same)
           (λ w.
           absurd (not (touched_of d size old i single rules place p runs_here.may.fits s
-          (merged_in chunk part.map (store_in part) es most s runs_here.may.fits w))))
+          (merged_in chunk part.map (store_in part) es most s runs_here.may.fits
+          (merged_sector chunk part.map (store_in part) es most old s (new s) w)))))
           (but s)
 
       pub represents_cut : Represents (cut_at place k d) size new
@@ -321,22 +321,15 @@ module _ (d : Device) (size place : ℕ)
     abbrev Runs : Result (Device × ℕ) DiskFault → Type 0
     Runs result = RunsPart g part (λ r. r.1) most old new result
 
-    sectors : (result : Result (Device × ℕ) DiskFault)
-        → Runs result
-        → Touches g (InSectors (IsMergedSector chunk part.map (store_in part) es most)) old new
-    sectors result runs =
-        touches_wider g (InSectors (IsMergedSector chunk part.map (store_in part) es most))
-        (IsMerging chunk part.map (store_in part) es most (g.seen old)) old new runs.touches
-        (λ s b w. merged_sector chunk part.map (store_in part) es most (g.seen old) s b w)
-
     touches_turns : (result : Result (Device × ℕ) DiskFault)
         → Runs result
         → Touches g (InSectors (IsOfTurns most d)) old new
     touches_turns result runs =
         touches_wider g (InSectors (IsOfTurns most d))
-        (InSectors (IsMergedSector chunk part.map (store_in part) es most)) old new
-        (sectors result runs)
-        (λ s b w. sector_of_turn most s w)
+        (IsMerging chunk part.map (store_in part) es most (g.seen old)) old new runs.touches
+        (λ s b w.
+        sector_of_turn most s
+        (merged_sector chunk part.map (store_in part) es most (g.seen old) s b w))
 
     leaves : (result : Result (Device × ℕ) DiskFault)
         → Runs result
@@ -347,7 +340,7 @@ module _ (d : Device) (size place : ℕ)
     leaves result runs t rest =
         adds_wider g.moment g.outcomes old new _ _
         (adds_both g.moment g.outcomes old new _ _
-        (runs.time t rest (scanned (g.seen old) (represents t))) ((sectors result runs).time t))
+        (runs.time t rest (scanned (g.seen old) (represents t))) (runs.touches.time t))
         (λ o both. record {
           told_so_far = both.0.told_so_far;
           made = both.0.dropped;
@@ -407,15 +400,13 @@ module _ (d : Device) (size place : ℕ)
               subst (λ (n : ℕ). Represents r.0 n (g.seen new)) (sym size_is)
               (subst (λ (x : Device). Represents x size (g.seen new)) (sym cut)
               (represents_cut (g.seen old) (represents t) r.1 most (g.seen new) few
-              (runs.merged t (scanned (g.seen old) (represents t)))
-              ((sectors (Ok r) runs).seen t)));
+              (runs.merged t (scanned (g.seen old) (represents t))) (runs.touches.seen t)));
           means = λ t. (
             within_left r.1 few,
             ap left_in cut ∙ left_cut d place r.1 count,
             ap (λ (x : Device). mounted_on x (g.seen new)) cut
                 ∙ mounted_cut (g.seen old) (represents t) r.1 most (g.seen new) few
-                (runs.merged t (scanned (g.seen old) (represents t)))
-                ((sectors (Ok r) runs).seen t),
+                (runs.merged t (scanned (g.seen old) (represents t))) (runs.touches.seen t),
           );
           rest = runs.rest;
           quiet = runs.touches.quiet;
