@@ -29,7 +29,7 @@ use Rattle.vab_exchanges.specs.Items.{joined, output_of}
 use Rattle.vab_commands.specs.Touched.{IsOfAll, IsOfCommands}
 use Rattle.vab_status.specs.Page.{page}
 use Rattle.vab_session.specs.Alone.{IsAlone, StandsAlone}
-use Rattle.vab_session.specs.Merges.{MergesNothing}
+use Rattle.vab_session.specs.Sparing.{SparesSource}
 use Rattle.vab_session.specs.Responses.{machine}
 use Rattle.vab_session.specs.Served.{nothing_staged}
 use Rattle.vab_session.specs.Source.{HasKept, StandsKept, FindsMergedFrom}
@@ -128,7 +128,7 @@ module _ {D : Type 0} (g : Ghosts D) (old new : D) (status : Status) where
   -- also where the disk fails.
   pub record WritesServe (turns : ℕ) : Type 0 where
     pub touches : Changes g (IsOfServing IsOfAll (g.size old) (g.seen old)) old new
-    pub unmerged : MergesNothing (2 ^ 44) turns (g.input_left old)
+    pub spared : SparesSource (2 ^ 44) turns (g.input_left old)
         → Changes g (IsOfServing IsOfCommands (g.size old) (g.seen old)) old new
     pub in_turn : WritesServed g (IsOfOpening (g.size old) (g.seen old)) turns (g.size old)
         (drop 4 (take (2 ^ 44) (g.input_left old)))
@@ -137,7 +137,7 @@ module _ {D : Type 0} (g : Ghosts D) (old new : D) (status : Status) where
   -- what making the device of the empty set does, and then in the same way
   pub record WritesFresh (turns : ℕ) : Type 0 where
     pub touches : Changes g (IsOfFresh IsOfAll (g.size old)) old new
-    pub unmerged : MergesNothing (2 ^ 44) turns (g.input_left old)
+    pub spared : SparesSource (2 ^ 44) turns (g.input_left old)
         → Changes g (IsOfFresh IsOfCommands (g.size old)) old new
     pub in_turn : WritesServed g (InSectors (IsOfMaking [] 65536)) turns (g.size old)
         (drop 4 (take (2 ^ 44) (g.input_left old)))

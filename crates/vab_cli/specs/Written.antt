@@ -10,7 +10,7 @@ use Rattle.vab_device.specs.declared.device.Device.{Device}
 use Rattle.vab_device.specs.Mounted.{Mounted, mounted_on}
 use Rattle.vab_device.specs.Reading.{Represents}
 use Rattle.vab_exchanges.specs.Session.{Exchange, spelled}
-use Rattle.vab_session.specs.Merges.{AreExchanges}
+use Rattle.vab_session.specs.Sparing.{AreExchanges}
 use Rattle.vab_session.specs.Served.{nothing_staged}
 use Rattle.vab_session.specs.Written.{WrittenInTurn, WritesAs, spelled_one}
 use Rattle.vab_update.specs.Install.{install_orders}

@@ -10,7 +10,7 @@ ghost use Rattle.vab_make.specs.Making.{LeavesMaking};
 ghost use Rattle.vab_make.specs.Touched.{IsOfMaking};
 ghost use Rattle.vab_recover.specs.Opening.{IsOfOpening};
 ghost use Rattle.vab_commands.specs.Touched.{IsOfAll, IsOfCommands};
-ghost use Rattle.vab_session.specs.Merges.{MergesNothing};
+ghost use Rattle.vab_session.specs.Sparing.{SparesSource};
 ghost use Rattle.vab_cli.specs.Causes.{IsBrokenOff, IsNoDevice, IsUnmade};
 ghost use Rattle.vab_cli.specs.Touched.{IsOfServing, IsOfFresh};
 ghost use Rattle.vab_commands.specs.Copies.{HasBothCopies};
@@ -49,10 +49,10 @@ pub(crate) fn open_and_serve<P: Port>(
         → Changes P.Disk
         (IsOfServing IsOfAll (P.size port.old) (P.seen port.old))
         port.old port.new }
-    ensures unmerged { P.is_modelled
+    ensures spared { P.is_modelled
         → (s : Mounted)
         → IsIn (P.size port.old) s (P.seen port.old)
-        → MergesNothing (2 ^ 44) turns (P.input_left port.old)
+        → SparesSource (2 ^ 44) turns (P.input_left port.old)
         → Changes P.Disk
         (IsOfServing IsOfCommands (P.size port.old) (P.seen port.old))
         port.old port.new }
@@ -121,8 +121,8 @@ pub(crate) fn make_and_serve<P: Port>(
         ⊎ FailsMaking P.Disk (P.size port.old) [] 0 65536 port.old port.new result }
     ensures changes { P.is_modelled
         → Changes P.Disk (IsOfFresh IsOfAll (P.size port.old)) port.old port.new }
-    ensures unmerged { P.is_modelled
-        → MergesNothing (2 ^ 44) turns (P.input_left port.old)
+    ensures spared { P.is_modelled
+        → SparesSource (2 ^ 44) turns (P.input_left port.old)
         → Changes P.Disk (IsOfFresh IsOfCommands (P.size port.old)) port.old port.new }
     ensures small { P.is_modelled
         → P.size port.old < 6152

@@ -19,7 +19,7 @@ use Rattle.vab_exchanges.specs.Hearing.{Listens}
 use Rattle.vab_exchanges.specs.Items.{Kept}
 use Rattle.vab_exchanges.specs.Session.{Exchange, packet, spelled}
 use Rattle.vab_exchanges.proofs.Progress.{AreDone, Progress}
-use Rattle.vab_session.specs.Merges.{AreExchanges, HasNoMerge, asks_merge}
+use Rattle.vab_session.specs.Sparing.{AreExchanges, AsksNoSource, asks_source}
 use Rattle.vab_session.specs.Responses.{machine}
 
 pub changes_listening : {D : Type 0} (g : Ghosts D) (W : ℕ → List ℕ → Type 0)
@@ -87,10 +87,10 @@ pub asks_none : {D : Type 0} (turns size : ℕ) (g : Ghosts D) (bytes beyond : L
     (first : Kept Mounted)
     (told : List ℕ) (old now : D) (left : List ℕ) (kept : Kept Mounted)
     → Progress (machine turns) (IsIn size) g bytes beyond first told old now left [] kept
-    → HasNoMerge bytes
+    → AsksNoSource bytes
     → (command after : List ℕ)
     → left ≡ packet command ++ after
-    → asks_merge (request_of command) ≡ false
+    → asks_source (request_of command) ≡ false
 asks_none turns size g bytes beyond first told old now left kept so_far none command after is =
     none so_far.done command after (are_exchanges so_far.done so_far.are)
     (so_far.is ∙ ap (λ (l : List ℕ). flat_map spelled so_far.done ++ l) is)

@@ -24,7 +24,7 @@ use Rattle.vab_device.specs.Updates.{effect_on}
 use Rattle.vab_commands.specs.Writes.{IsOfCommand}
 use Rattle.vab_exchanges.specs.Session.{Exchange, IsExchange, packet, spelled}
 use Rattle.vab_exchanges.specs.Items.{Kept, item_of, passed, item_behind}
-use Rattle.vab_session.specs.Merges.{AreExchanges}
+use Rattle.vab_session.specs.Sparing.{AreExchanges}
 use Rattle.vab_session.specs.Responses.{response, machine}
 use Rattle.vab_session.specs.Served.{nothing_staged}
 use Rattle.vab_session.specs.Written.{IsOfChange, IsOfPacket, WrittenInTurn}

@@ -17,7 +17,7 @@ use Rattle.vab_fbproto.specs.Requests.{request_of}
 use Rattle.vab_fbproto.specs.declared.request.BadCommand.{BadCommand}
 use Rattle.vab_exchanges.specs.Session.{Exchange, packet, spelled}
 use Rattle.vab_exchanges.specs.Items.{Kept, passed, item_behind}
-use Rattle.vab_session.specs.Merges.{AreExchanges}
+use Rattle.vab_session.specs.Sparing.{AreExchanges}
 use Rattle.vab_session.specs.Responses.{machine}
 
 -- The command that a packet asks for, where it asks for one. To merge all is a merge of one turn

@@ -15,7 +15,7 @@ ghost use Rattle.vab_exchanges.specs.Session.{ends_session};
 ghost use Rattle.vab_exchanges.specs.Reading.{stands_at, rest_of, beyond_of, room_of, total_of};
 ghost use Rattle.vab_exchanges.specs.Reading.{count_of, most_of, IsFed};
 ghost use Rattle.vab_exchanges.specs.Items.{AsksNoData, staged_after};
-ghost use Rattle.vab_session.specs.Merges.{asks_merge};
+ghost use Rattle.vab_session.specs.Sparing.{asks_source};
 ghost use Rattle.vab_session.specs.Responses.{response, still, takes_staged};
 ghost use Rattle.vab_session.specs.Served.{kept_on, AnswersOrFails, HasCause, Held};
 ghost use Rattle.vab_session.specs.Written.{IsOfChange, WritesAs, WritesPacket};
@@ -168,7 +168,7 @@ fn command<P: Port>(
     ensures left { P.is_modelled → P.input_left p.new ≡ P.input_left p.old }
     ensures device { IfOk result (λ k. IsDevice k.device (P.size p.old)) }
     ensures follows { IfOk result
-        (λ k. FollowsBy kept.device (asks_merge (request_of packet.now) ≡ false) k.device) }
+        (λ k. FollowsBy kept.device (asks_source (request_of packet.now) ≡ false) k.device) }
     ensures stands { P.is_modelled
         → IfOk result (λ k. Represents k.device (P.size p.old) (P.seen p.new)) }
     ensures does { P.is_modelled
@@ -176,7 +176,7 @@ fn command<P: Port>(
         → AnswersOrFails (P.size p.old) P.Disk (kept_on kept (P.seen p.old))
         packet.now before before beyond count total most p.old p.new result }
     ensures changes { P.is_modelled
-        → ChangesBy P.Disk kept.device (asks_merge (request_of packet.now) ≡ false) p.old p.new }
+        → ChangesBy P.Disk kept.device (asks_source (request_of packet.now) ≡ false) p.old p.new }
     ensures copies { P.is_modelled
         → Held result
         → HasBothCopies (P.size p.old) (P.seen p.new) }
@@ -326,7 +326,7 @@ pub(crate) fn answer<P: Port>(
     ensures most { most_of reader.new ≡ most_of reader.old }
     ensures device { IfOk result (λ k. IsDevice k.device (P.size p.old)) }
     ensures follows { IfOk result
-        (λ k. FollowsBy kept.device (asks_merge (request_of packet.now) ≡ false) k.device) }
+        (λ k. FollowsBy kept.device (asks_source (request_of packet.now) ≡ false) k.device) }
     ensures stands { P.is_modelled
         → IfOk result (λ k. Represents k.device (P.size p.old) (P.seen p.new)) }
     ensures does { P.is_modelled
@@ -339,7 +339,7 @@ pub(crate) fn answer<P: Port>(
         (total_of reader.old (P.input_left p.old))
         (most_of reader.old) p.old p.new result }
     ensures changes { P.is_modelled
-        → ChangesBy P.Disk kept.device (asks_merge (request_of packet.now) ≡ false) p.old p.new }
+        → ChangesBy P.Disk kept.device (asks_source (request_of packet.now) ≡ false) p.old p.new }
     ensures copies { P.is_modelled
         → Held result
         → HasBothCopies (P.size p.old) (P.seen p.new) }

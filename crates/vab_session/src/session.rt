@@ -10,7 +10,7 @@ ghost use Rattle.vab_commands.specs.Touched.{ChangesBy};
 ghost use Rattle.vab_exchanges.specs.Reading.{stands_at, rest_of, beyond_of, total_of, count_of};
 ghost use Rattle.vab_exchanges.specs.Reading.{most_of, IsFed};
 ghost use Rattle.vab_exchanges.specs.Runs.{Ran};
-ghost use Rattle.vab_session.specs.Merges.{IsPlain, MergesNothing};
+ghost use Rattle.vab_session.specs.Sparing.{IsPlain, SparesSource};
 ghost use Rattle.vab_session.specs.Responses.{machine};
 ghost use Rattle.vab_session.specs.Served.{kept_on, Held, Says, reached, SaysSlot};
 ghost use Rattle.vab_session.specs.Served.{ServesDevice, HasCause, nothing_staged};
@@ -122,7 +122,7 @@ fn hold_session<P: Port>(
     ensures slot { IfOk result (λ r. SaysSlot r.0 r.1) }
     ensures size { P.size p.new ≡ P.size p.old }
     ensures changes { P.is_modelled
-        → ChangesBy P.Disk device (MergesNothing most turns (P.input_left p.old)) p.old p.new }
+        → ChangesBy P.Disk device (SparesSource most turns (P.input_left p.old)) p.old p.new }
     ensures copies { P.is_modelled
         → Held result
         → HasBothCopies (P.size p.old) (P.seen p.new) }
@@ -176,7 +176,7 @@ pub fn serve_up_to<P: Port>(
     ensures slot { IfOk result (λ r. SaysSlot r.0 r.1) }
     ensures size { P.size p.new ≡ P.size p.old }
     ensures changes { P.is_modelled
-        → ChangesBy P.Disk device (MergesNothing most 0 (P.input_left p.old)) p.old p.new }
+        → ChangesBy P.Disk device (SparesSource most 0 (P.input_left p.old)) p.old p.new }
     ensures copies { P.is_modelled
         → Held result
         → HasBothCopies (P.size p.old) (P.seen p.new) }
@@ -211,7 +211,7 @@ pub fn serve_with<P: Port>(
     ensures slot { IfOk result (λ r. SaysSlot r.0 r.1) }
     ensures size { P.size p.new ≡ P.size p.old }
     ensures changes { P.is_modelled
-        → ChangesBy P.Disk device (MergesNothing (2 ^ 44) turns (P.input_left p.old)) p.old p.new }
+        → ChangesBy P.Disk device (SparesSource (2 ^ 44) turns (P.input_left p.old)) p.old p.new }
     ensures copies { P.is_modelled
         → Held result
         → HasBothCopies (P.size p.old) (P.seen p.new) }
@@ -243,7 +243,7 @@ pub fn serve<P: Port>(
     ensures slot { IfOk result (λ r. SaysSlot r.0 r.1) }
     ensures size { P.size p.new ≡ P.size p.old }
     ensures changes { P.is_modelled
-        → ChangesBy P.Disk device (MergesNothing (2 ^ 44) 0 (P.input_left p.old)) p.old p.new }
+        → ChangesBy P.Disk device (SparesSource (2 ^ 44) 0 (P.input_left p.old)) p.old p.new }
     ensures copies { P.is_modelled
         → Held result
         → HasBothCopies (P.size p.old) (P.seen p.new) }

@@ -234,7 +234,7 @@ returns-then-fresh-clause-does g c =
       runs = λ t. record { enough = done.runs t; small = done.small t };
       writes = λ t. record {
         touches = done.changes t;
-        unmerged = done.unmerged t;
+        spared = done.spared t;
         in_turn = done.writes t;
       };
       keeps = λ t. tt;
@@ -263,7 +263,7 @@ returns-else-fresh-clause-does g c =
       runs = λ t. record { opened = done.runs t; none = done.none t };
       writes = λ t s stands. record {
         touches = done.changes t s stands;
-        unmerged = done.unmerged t s stands;
+        spared = done.spared t s stands;
         in_turn = done.writes t s stands;
       };
       keeps = λ t. tt;

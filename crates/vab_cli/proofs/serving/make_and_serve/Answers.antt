@@ -30,7 +30,7 @@ use Rattle.vab_cli.proofs.Writing.{changes_as, writes_opened}
 use Rattle.vab_cli.proofs.Sessions.{making_failed, opening_failed, made_runs, opens_sized}
 use Rattle.vab_device.specs.declared.device.Device.{Device}
 use Rattle.vab_commands.specs.Touched.{IsOfAll, IsOfCommands}
-use Rattle.vab_session.specs.Merges.{MergesNothing}
+use Rattle.vab_session.specs.Sparing.{SparesSource}
 use Rattle.vab_cli.specs.Touched.{IsOfFresh}
 use Rattle.vab_cli.proofs.Touching.{served_changes}
 use Rattle.vab_cli.proofs.FreshTouching.{made_opened, making_fresh, made_served}
@@ -237,8 +237,8 @@ returns-in-Err-clause-changes g c = λ t.
     unmade g.P.Disk c.from_vec-set.result c.args.port.now c.make_device.new.d set IsOfAll
     c.make_device.ensures.touches
 
-pub returns-in-Err-clause-unmerged : goal.returns-in-Err-clause-unmerged
-returns-in-Err-clause-unmerged g c = λ t none.
+pub returns-in-Err-clause-spared : goal.returns-in-Err-clause-spared
+returns-in-Err-clause-spared g c = λ t none.
     let set : c.from_vec-set.result ≡ [] = search rules in
     unmade g.P.Disk c.from_vec-set.result c.args.port.now c.make_device.new.d set IsOfCommands
     c.make_device.ensures.touches
@@ -287,8 +287,8 @@ returns-in-Err-start-clause-changes g c = λ t.
     (search rules) c.make_device.ensures.touches.quiet.size (c.in-Ok.ensures.made t)
     (c.in-Ok.ensures.version t) c.make_device.ensures.touches (c.start.ensures.touches t) IsOfAll
 
-pub returns-in-Err-start-clause-unmerged : goal.returns-in-Err-start-clause-unmerged
-returns-in-Err-start-clause-unmerged g c = λ t none.
+pub returns-in-Err-start-clause-spared : goal.returns-in-Err-start-clause-spared
+returns-in-Err-start-clause-spared g c = λ t none.
     opens_made g.P.Disk c.from_vec-set.result c.args.port.now c.make_device.new.d c.start.new.d
     (search rules) c.make_device.ensures.touches.quiet.size (c.in-Ok.ensures.made t)
     (c.in-Ok.ensures.version t) c.make_device.ensures.touches (c.start.ensures.touches t)
@@ -308,8 +308,8 @@ returns-clause-changes g c = λ t.
     (c.in-Ok-start.ensures.represents t))
     by.all
 
-pub returns-clause-unmerged : goal.returns-clause-unmerged
-returns-clause-unmerged g c = λ t none.
+pub returns-clause-spared : goal.returns-clause-spared
+returns-clause-spared g c = λ t none.
     let sized : g.P.Disk.size c.make_device.new.d ≡ g.P.Disk.size c.args.port.now =
     c.make_device.ensures.touches.quiet.size in
     let by = c.serve_with-answer.ensures.changes t in
@@ -322,7 +322,7 @@ returns-clause-unmerged g c = λ t none.
     (subst
     (λ (n : ℕ). Represents c.in-Ok-start.device n (g.P.Disk.seen c.start.new.d)) sized
     (c.in-Ok-start.ensures.represents t))
-    (by.plain (subst (MergesNothing (2 ^ 44) c.args.turns) (sym left) none))
+    (by.plain (subst (SparesSource (2 ^ 44) c.args.turns) (sym left) none))
 
 pub returns-in-Err-clause-unmade : goal.returns-in-Err-clause-unmade
 returns-in-Err-clause-unmade g c = λ t none.

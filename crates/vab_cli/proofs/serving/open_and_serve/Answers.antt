@@ -1,7 +1,7 @@
 use Rattle.std.proofs.Common.{inl, ℕ, sym, subst, ◌^◌}
 use Rattle.vab_disk.proofs.CallLaws.{changes_wider}
 use Rattle.vab_commands.specs.Touched.{IsOfAll, IsOfCommands}
-use Rattle.vab_session.specs.Merges.{MergesNothing}
+use Rattle.vab_session.specs.Sparing.{SparesSource}
 use Rattle.vab_session.specs.Served.{ServesDevice}
 use Rattle.vab_cli.specs.declared.status.Status.{Status}
 use Rattle.vab_cli.specs.Runs.{RunsSession}
@@ -40,8 +40,8 @@ returns-in-Err-clause-changes g c = λ t s stands.
     (IsOfServing IsOfAll (g.P.Disk.size c.args.port.now) (g.P.Disk.seen c.args.port.now)) _
     c.args.port.now c.open.new.port (c.open.ensures.changes t) (λ n x w. inl w)
 
-pub returns-in-Err-clause-unmerged : goal.returns-in-Err-clause-unmerged
-returns-in-Err-clause-unmerged g c = λ t s stands none.
+pub returns-in-Err-clause-spared : goal.returns-in-Err-clause-spared
+returns-in-Err-clause-spared g c = λ t s stands none.
     changes_wider g.P.Disk
     (IsOfServing IsOfCommands (g.P.Disk.size c.args.port.now) (g.P.Disk.seen c.args.port.now)) _
     c.args.port.now c.open.new.port (c.open.ensures.changes t) (λ n x w. inl w)
@@ -53,14 +53,14 @@ returns-clause-changes g c = λ t s stands.
     c.args.port.now c.open.new.port c.serve_with-answer.new.p t (c.in-Ok.ensures.represents t)
     (c.open.ensures.changes t) by.all
 
-pub returns-clause-unmerged : goal.returns-clause-unmerged
-returns-clause-unmerged g c = λ t s stands none.
+pub returns-clause-spared : goal.returns-clause-spared
+returns-clause-spared g c = λ t s stands none.
     let by = c.serve_with-answer.ensures.changes t in
     let opens = c.in-Ok.ensures.opens t in
     served_changes g.P.Disk (g.P.Disk.size c.args.port.now) IsOfCommands c.in-Ok.device
     c.args.port.now c.open.new.port c.serve_with-answer.new.p t (c.in-Ok.ensures.represents t)
     (c.open.ensures.changes t)
-    (by.plain (subst (MergesNothing (2 ^ 44) c.args.turns) (sym opens.left) none))
+    (by.plain (subst (SparesSource (2 ^ 44) c.args.turns) (sym opens.left) none))
 
 pub returns-in-Err-clause-broken_off : goal.returns-in-Err-clause-broken_off
 returns-in-Err-clause-broken_off g c = λ t bad.

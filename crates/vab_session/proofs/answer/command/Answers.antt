@@ -16,7 +16,7 @@ use Rattle.vab_fbproto.specs.Requests.{variable_of}
 use Rattle.vab_fbproto.specs.declared.request.BadCommand.{BadCommand}
 use Rattle.vab_fbvars.specs.Variables.{variable_text}
 use Rattle.vab_commands.proofs.ChangeLaws.{changes_by, changes_under, follows_under}
-use Rattle.vab_session.specs.Merges.{asks_merge}
+use Rattle.vab_session.specs.Sparing.{asks_source}
 use Rattle.vab_session.specs.Responses.{still, by_command, left_of}
 use Rattle.vab_session.specs.Served.{kept_on}
 use Rattle.vab_session.proofs.Changing.{if_ok, follows_kept}
@@ -118,9 +118,9 @@ returns-in-Err-clause-does g c = λ t before beyond count total most.
 -- a packet that asks for this asks for no more merges than it does
 asks_for : (packet : List ℕ) (asked : Result Asked BadCommand)
     → request_of packet ≡ asked
-    → asks_merge (request_of packet) ≡ false
-    → asks_merge asked ≡ false
-asks_for packet asked is not = sym (ap asks_merge is) ∙ not
+    → asks_source (request_of packet) ≡ false
+    → asks_source asked ≡ false
+asks_for packet asked is not = sym (ap asks_source is) ∙ not
 
 pub returns-in-Ok-Getvar-clause-changes : goal.returns-in-Ok-Getvar-clause-changes
 returns-in-Ok-Getvar-clause-changes g c = λ t.

@@ -18,7 +18,7 @@ use Rattle.vab_exchanges.specs.Items.{Kept, passed}
 use Rattle.vab_exchanges.specs.Runs.{Passes, Ran}
 use Rattle.vab_exchanges.proofs.Progress.{begun, stopped, answered, rebooted, failed_passing}
 use Rattle.vab_session.specs.declared.fault.SessionFault.{SessionFault}
-use Rattle.vab_session.specs.Merges.{asks_merge}
+use Rattle.vab_session.specs.Sparing.{asks_source}
 use Rattle.vab_session.specs.Responses.{response, turns_between, machine}
 use Rattle.vab_session.specs.declared.fault.Ended.{Ended}
 use Rattle.vab_session.specs.Served.{kept_on, HasCause, HeldBy, Says}
@@ -294,7 +294,7 @@ loop-next-preserved g c =
       follows = λ t.
           follows_then c.args.kept.device c.in-Ok.next.device after.device _ _
           (λ p.
-          subst (λ (l : List ℕ). asks_merge (request_of l) ≡ false)
+          subst (λ (l : List ℕ). asks_source (request_of l) ≡ false)
           (sym c.as_slice.ensures.value)
           (asks_none c.args.turns (g.P.Disk.size c.args.p.now) g.P.Disk _ _ _ p.0.0 _ _ _ _
           (c.loop-next.invariant.progress t p.0.0 p.0.1) p.1 _ _
@@ -309,7 +309,7 @@ loop-next-preserved g c =
           (subst (λ (n : ℕ). Represents c.in-Ok.next.device n (g.P.Disk.seen c.go_on.new.d))
           c.loop-next.invariant.size (c.in-Ok.ensures.stands t))
           (λ p.
-          subst (λ (l : List ℕ). asks_merge (request_of l) ≡ false)
+          subst (λ (l : List ℕ). asks_source (request_of l) ≡ false)
           (sym c.as_slice.ensures.value)
           (asks_none c.args.turns (g.P.Disk.size c.args.p.now) g.P.Disk _ _ _ p.0.0 _ _ _ _
           (c.loop-next.invariant.progress t p.0.0 p.0.1) p.1 _ _
@@ -616,7 +616,7 @@ returns-in-Err-answer-clause-changes g c = λ t.
     (subst (λ (n : ℕ). Represents c.in-Ok.next.device n (g.P.Disk.seen c.go_on.new.d))
     c.loop-next.invariant.size (c.in-Ok.ensures.stands t))
     (λ p.
-    subst (λ (l : List ℕ). asks_merge (request_of l) ≡ false)
+    subst (λ (l : List ℕ). asks_source (request_of l) ≡ false)
     (sym c.as_slice.ensures.value)
     (asks_none c.args.turns (g.P.Disk.size c.args.p.now) g.P.Disk _ _ _ p.0.0 _ _ _ _
     (c.loop-next.invariant.progress t p.0.0 p.0.1) p.1 _ _
@@ -638,7 +638,7 @@ returns-then-is_last-clause-changes g c = λ t.
     (subst (λ (n : ℕ). Represents c.in-Ok.next.device n (g.P.Disk.seen c.go_on.new.d))
     c.loop-next.invariant.size (c.in-Ok.ensures.stands t))
     (λ p.
-    subst (λ (l : List ℕ). asks_merge (request_of l) ≡ false)
+    subst (λ (l : List ℕ). asks_source (request_of l) ≡ false)
     (sym c.as_slice.ensures.value)
     (asks_none c.args.turns (g.P.Disk.size c.args.p.now) g.P.Disk _ _ _ p.0.0 _ _ _ _
     (c.loop-next.invariant.progress t p.0.0 p.0.1) p.1 _ _

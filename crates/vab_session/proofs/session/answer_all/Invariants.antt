@@ -7,7 +7,7 @@ use Rattle.vab_commands.specs.Touched.{ChangesBy, FollowsBy}
 use Rattle.vab_exchanges.specs.Reading.{stands_at, rest_of, beyond_of, room_of, total_of, most_of}
 use Rattle.vab_exchanges.specs.Reading.{IsFed}
 use Rattle.vab_exchanges.proofs.Progress.{Progress}
-use Rattle.vab_session.specs.Merges.{IsPlain}
+use Rattle.vab_session.specs.Sparing.{IsPlain}
 use Rattle.vab_session.specs.Responses.{machine}
 use Rattle.vab_session.specs.Served.{kept_on}
 use Rattle.vab_session.proofs.WrittenLaws.{HasWritten}

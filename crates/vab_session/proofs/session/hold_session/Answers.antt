@@ -23,7 +23,7 @@ use Rattle.vab_exchanges.proofs.Listening.{hears_at, hears_same}
 use Rattle.vab_exchanges.proofs.Serving.{Begins, served, failed_early, greeting}
 use Rattle.vab_session.specs.declared.fault.Ended.{Ended}
 use Rattle.vab_session.specs.declared.fault.SessionFault.{SessionFault}
-use Rattle.vab_session.specs.Merges.{HasNoMerge, MergesNothing}
+use Rattle.vab_session.specs.Sparing.{AsksNoSource, SparesSource}
 use Rattle.vab_session.specs.Responses.{response, machine}
 use Rattle.vab_session.specs.Served.{nothing_staged, Held, HeldBy, Says, HasCause, reached}
 use Rattle.vab_session.proofs.Data.{read_cause}
@@ -274,13 +274,13 @@ returns-clause-changes g c = λ t.
     ok.rest t
     ∙ ap (λ (l : List ℕ). drop 4 l)
     (c.new-reader.ensures.rest (g.P.Disk.input_left said_to) ∙ ap (take most) (said.left t)) in
-    changes_behind g.P.Disk d _ (MergesNothing most c.args.turns input) old mid new seen
+    changes_behind g.P.Disk d _ (SparesSource most c.args.turns input) old mid new seen
     (λ W.
     changes_then g.P.Disk W old said_to mid
     (changes_telling g.P.Disk W _ old said_to said.size said.seen said.crash said.time)
     (changes_listening g.P.Disk W _ _ said_to mid listens))
     (λ none.
-    ((g.P.Disk.told old, listens.told t ∙ told), subst HasNoMerge (sym rest) none.0, none.1))
+    ((g.P.Disk.told old, listens.told t ∙ told), subst AsksNoSource (sym rest) none.0, none.1))
     (c.answer_all.ensures.changes t)
 
 pub returns-then-is_err-clause-copies : goal.returns-then-is_err-clause-copies
