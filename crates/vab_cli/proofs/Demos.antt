@@ -184,27 +184,27 @@ module _ {D : Type 0}
   -- memory was refused before anything was done
   pub demo_short : Demonstrates g set next old old NoMemory
   demo_short = record {
-        runs = λ t. record {
-          lives = λ none.
-              inr (making_failed g only_now size 0 set 0 65536 old old NoMemory (inr refl) refl
-        (λ memory. inl (untouched_stays g only_now size old old refl))
-        (λ rest. record {
-          later = omega arith;
-          keeps = λ t o before there. there;
-          adds = λ t o before there. inl there;
-        }));
-          refused = λ fault is. let reads = reads_none g old in
-        refused_unheard g only_now size (make_line fault) (make_status fault) old old NoMemory
-        refl refl (reads.time t) (silent_line fault)
-        (λ port. absurd (status_not_port fault port)) (inr (inr refl));
-        };
-        writes = λ t. record {
-          touches = changes_none g _ old;
-          in_turn = inr (changes_as g Fresh old old t (changes_none g Fresh old));
-        };
-        small = λ less. inr (inr refl);
-        quiet = λ t. record { left = refl; heard = refl };
-      }
+    runs = λ t. record {
+      lives = λ none.
+          inr (making_failed g only_now size 0 set 0 65536 old old NoMemory (inr refl) refl
+          (λ memory. inl (untouched_stays g only_now size old old refl))
+          (λ rest. record {
+            later = omega arith;
+            keeps = λ t o before there. there;
+            adds = λ t o before there. inl there;
+          }));
+      refused = λ fault is. let reads = reads_none g old in
+          refused_unheard g only_now size (make_line fault) (make_status fault) old old NoMemory
+          refl refl (reads.time t) (silent_line fault)
+          (λ port. absurd (status_not_port fault port)) (inr (inr refl));
+    };
+    writes = λ t. record {
+      touches = changes_none g _ old;
+      in_turn = inr (changes_as g Fresh old old t (changes_none g Fresh old));
+    };
+    small = λ less. inr (inr refl);
+    quiet = λ t. record { left = refl; heard = refl };
+  }
 
   -- it isn't made
   pub demo_unmade : (f : MakeFault) (mid new : D) (status : Status)
@@ -218,53 +218,53 @@ module _ {D : Type 0}
       → (status ≡ make_status f) ⊎ (status ≡ Port)
       → Demonstrates g set next old new status
   demo_unmade f mid new status gives untouched makes making tells sized silent either = record {
-        runs = λ t. record {
-          lives = λ none. let free : Gives {A = Unit {0}} (Err f) None =
-        subst (λ (said : Option MakeFault). Gives {A = Unit {0}} (Err f) said) none gives in
-        let same = silent (early_silent f free) in
-        let early : IsEarly status = subst IsEarly (sym same.1) (made_early f free) in
-        inr (subst (λ (x : D). FailsMaking g size set 0 65536 old x status) (sym same.0)
-        (making_failed g only_now size 0 set 0 65536 old mid status early (makes.quiet.told t)
-        (λ memory.
-        inl (untouched_stays g only_now size old mid
-        (untouched (memory_of_none f (sym same.1 ∙ memory)))))
-        (making t)));
-          refused = λ fault is. let by : Gives {A = Unit {0}} (Err f) (Some fault) =
-        subst (λ (said : Option MakeFault). Gives {A = Unit {0}} (Err f) said) is gives in
-        let before : mid ≡ old = untouched (not_of_disk f fault by) in
-        elim (cases_Bool (is_silent f)) [
-          | inl quiet ↦
-              let same = silent quiet in
-              let reads = subst (λ (x : D). OnlyReads g old x) (sym (same.0 ∙ before))
-              (reads_none g old) in
-              refused_unheard g only_now size (make_line fault) (make_status fault) old new status
-              (reads.quiet.told t) (reads.seen t) (reads.time t) (silent_line fault)
-              (λ port. absurd (status_not_port fault port))
-              (inr (inr (same.1 ∙ silent_memory f fault by quiet)))
-          | inr loud ↦
-              let same : f ≡ fault = loud_refusal f fault by loud in
-              let reads = subst (λ (x : D). OnlyReads g old x) (sym before) (reads_none g old) in
-              refused_told g only_now size (make_line fault) (make_status fault) old mid new
-              status (makes.quiet.told t) (reads.seen t) (reads.crash t) (reads.time t)
-              (silent_line fault) (λ port. cc)
-              (subst (λ (x : MakeFault). (status ≡ make_status x) ⊎ (status ≡ Port)) same either)
-              (subst
-              (λ (x : MakeFault). Tells g (make_line x) (make_status x) mid new status) same
-              (tells t))
-        ];
-        };
-        writes = λ t. record {
-          touches = let told = tells t in
-        changes_then g _ old mid new (making_made mid makes)
-        (changes_telling g _ _ mid new sized (λ t. told.seen) (λ t. told.crash)
-        (λ t. told.time));
-          in_turn = let told = tells t in
-        inr (changes_as g Fresh old new t
-        (changes_then g Fresh old mid new (changes_touches g Fresh old mid makes)
-        (changes_telling g _ _ mid new sized (λ t. told.seen) (λ t. told.crash)
-        (λ t. told.time))));
-        };
-        small = λ less.
+    runs = λ t. record {
+      lives = λ none. let free : Gives {A = Unit {0}} (Err f) None =
+          subst (λ (said : Option MakeFault). Gives {A = Unit {0}} (Err f) said) none gives in
+          let same = silent (early_silent f free) in
+          let early : IsEarly status = subst IsEarly (sym same.1) (made_early f free) in
+          inr (subst (λ (x : D). FailsMaking g size set 0 65536 old x status) (sym same.0)
+          (making_failed g only_now size 0 set 0 65536 old mid status early (makes.quiet.told t)
+          (λ memory.
+          inl (untouched_stays g only_now size old mid
+          (untouched (memory_of_none f (sym same.1 ∙ memory)))))
+          (making t)));
+      refused = λ fault is. let by : Gives {A = Unit {0}} (Err f) (Some fault) =
+          subst (λ (said : Option MakeFault). Gives {A = Unit {0}} (Err f) said) is gives in
+          let before : mid ≡ old = untouched (not_of_disk f fault by) in
+          elim (cases_Bool (is_silent f)) [
+            | inl quiet ↦
+                let same = silent quiet in
+                let reads = subst (λ (x : D). OnlyReads g old x) (sym (same.0 ∙ before))
+                (reads_none g old) in
+                refused_unheard g only_now size (make_line fault) (make_status fault) old new status
+                (reads.quiet.told t) (reads.seen t) (reads.time t) (silent_line fault)
+                (λ port. absurd (status_not_port fault port))
+                (inr (inr (same.1 ∙ silent_memory f fault by quiet)))
+            | inr loud ↦
+                let same : f ≡ fault = loud_refusal f fault by loud in
+                let reads = subst (λ (x : D). OnlyReads g old x) (sym before) (reads_none g old) in
+                refused_told g only_now size (make_line fault) (make_status fault) old mid new
+                status (makes.quiet.told t) (reads.seen t) (reads.crash t) (reads.time t)
+                (silent_line fault) (λ port. cc)
+                (subst (λ (x : MakeFault). (status ≡ make_status x) ⊎ (status ≡ Port)) same either)
+                (subst
+                (λ (x : MakeFault). Tells g (make_line x) (make_status x) mid new status) same
+                (tells t))
+          ];
+    };
+    writes = λ t. record {
+      touches = let told = tells t in
+          changes_then g _ old mid new (making_made mid makes)
+          (changes_telling g _ _ mid new sized (λ t. told.seen) (λ t. told.crash)
+          (λ t. told.time));
+      in_turn = let told = tells t in
+          inr (changes_as g Fresh old new t
+          (changes_then g Fresh old mid new (changes_touches g Fresh old mid makes)
+          (changes_telling g _ _ mid new sized (λ t. told.seen) (λ t. told.crash)
+          (λ t. told.time))));
+    };
+    small = λ less.
         let by : Gives {A = Unit {0}} (Err f) (Some (make.TooSmall 6152 size)) =
         subst (λ (said : Option MakeFault). Gives {A = Unit {0}} (Err f) said)
         (small_refused set 0 65536 size less) gives in
@@ -273,13 +273,13 @@ module _ {D : Type 0}
         ⊎_elim (λ none. inl (is ∙ none)) (λ memory. inr (inr (is ∙ memory)))
         (made_small f 6152 size by))
         (λ port. inr (inl port)) either;
-        quiet = λ t.
+    quiet = λ t.
         let told = tells t in
         record {
           left = told.left ∙ makes.quiet.left t;
           heard = told.heard ∙ makes.quiet.heard t;
         };
-      }
+  }
 
   -- it is made
   module _ (mid : D)
@@ -333,29 +333,29 @@ module _ {D : Type 0}
         → Adds g.moment g.outcomes mid now (LeavesSame (g.told mid) (g.size mid) (g.seen mid)))
         → Demonstrates g set next old now status
     demo_unopened now status early unwritten opens time = record {
-        runs = λ t. record {
-          lives = λ none.
-              inr (opening_failed g only_now size 0 set 0 65536 old mid now status (early t)
-          (makes.quiet.told t) (quiet_there t now (opens t)).told (unwritten t)
-          (made t) (rest t) (making t)
-          (subst
-          (λ (n : ℕ).
-          IsAtRest g mid
-          → Adds g.moment g.outcomes mid now (LeavesSame (g.told mid) n (g.seen mid)))
-          makes.quiet.size (time t)));
-          refused = λ fault is. not_refused fault is;
-        };
-        writes = λ t. record {
-          touches = making_fresh g set size IsOfAll old now (fresh_opened t now (opens t));
-          in_turn = inr (changes_as g Fresh old now t (fresh_opened t now (opens t)));
-        };
-        small = λ less.
+      runs = λ t. record {
+        lives = λ none.
+            inr (opening_failed g only_now size 0 set 0 65536 old mid now status (early t)
+            (makes.quiet.told t) (quiet_there t now (opens t)).told (unwritten t)
+            (made t) (rest t) (making t)
+            (subst
+            (λ (n : ℕ).
+            IsAtRest g mid
+            → Adds g.moment g.outcomes mid now (LeavesSame (g.told mid) n (g.seen mid)))
+            makes.quiet.size (time t)));
+        refused = λ fault is. not_refused fault is;
+      };
+      writes = λ t. record {
+        touches = making_fresh g set size IsOfAll old now (fresh_opened t now (opens t));
+        in_turn = inr (changes_as g Fresh old now t (fresh_opened t now (opens t)));
+      };
+      small = λ less.
           not_refused (make.TooSmall 6152 size) (small_refused set 0 65536 size less);
-        quiet = λ t. record {
+      quiet = λ t. record {
         left = (quiet_there t now (opens t)).left ∙ makes.quiet.left t;
         heard = (quiet_there t now (opens t)).heard ∙ makes.quiet.heard t;
       };
-      }
+    }
 
     -- and is opened, and lives
     module _ (d : Device) (now new : D) (r : Result Device Status)
@@ -435,57 +435,57 @@ module _ {D : Type 0}
       demo_lives = record {
         runs = λ t. record {
           lives = λ none. inl (record {
-          status_is = ends_are r c.ends lived.stop (lived.ends t);
-          items = record {
-            front =
-                (let front = lived.front t in (
-                  front.0,
-                  front.1
-                      ∙ ap (λ (l : List ℕ). l ++ take front.0 (joined c.items)) (told_now t),
-                ));
-            whole = λ same.
-                closed_is r c.ends _ end lived.stop same (lived.told t)
-                ∙ ap (λ (l : List ℕ). l ++ joined c.items) (told_now t);
-            stands = λ same.
-                subst (λ (n : ℕ). IsIn n c.last (g.seen new)) sized
-                (closed_is r c.ends _ end lived.stop same (lived.stands t));
-            settled = λ before same.
-                closed_is r c.ends _ end lived.stop same
-                (lived.rest t ((let by = opened t in by.settled) (rest t)));
-            every_cut = every_cut t;
-          };
-          short = λ memory.
-              let s = lived.short t (wanted r memory) in
-              record {
-                done = s.done;
-                item = s.item;
-                later = s.later;
-                are = s.are;
-                told = s.told ∙ ap (λ (l : List ℕ). l ++ joined s.done) (told_now t);
-                step =
-                    subst
-                    (λ (n : ℕ).
-                    (m : Mounted) × IsOneOf s.item.steps m × IsIn n m (g.seen new))
-                    sized s.step;
-                settled = λ before.
-                    s.settled ((let by = opened t in by.settled) (rest t));
-              };
-        });
+            status_is = ends_are r c.ends lived.stop (lived.ends t);
+            items = record {
+              front =
+                  (let front = lived.front t in (
+                    front.0,
+                    front.1
+                        ∙ ap (λ (l : List ℕ). l ++ take front.0 (joined c.items)) (told_now t),
+                  ));
+              whole = λ same.
+                  closed_is r c.ends _ end lived.stop same (lived.told t)
+                  ∙ ap (λ (l : List ℕ). l ++ joined c.items) (told_now t);
+              stands = λ same.
+                  subst (λ (n : ℕ). IsIn n c.last (g.seen new)) sized
+                  (closed_is r c.ends _ end lived.stop same (lived.stands t));
+              settled = λ before same.
+                  closed_is r c.ends _ end lived.stop same
+                  (lived.rest t ((let by = opened t in by.settled) (rest t)));
+              every_cut = every_cut t;
+            };
+            short = λ memory.
+                let s = lived.short t (wanted r memory) in
+                record {
+                  done = s.done;
+                  item = s.item;
+                  later = s.later;
+                  are = s.are;
+                  told = s.told ∙ ap (λ (l : List ℕ). l ++ joined s.done) (told_now t);
+                  step =
+                      subst
+                      (λ (n : ℕ).
+                      (m : Mounted) × IsOneOf s.item.steps m × IsIn n m (g.seen new))
+                      sized s.step;
+                  settled = λ before.
+                      s.settled ((let by = opened t in by.settled) (rest t));
+                };
+          });
           refused = λ fault is. not_refused fault is;
         };
         writes = λ t. record {
           touches = made_served g set size IsOfAll old mid new (made t) (version t)
-            (changes_touches g _ old mid makes)
-            (served_changes g size IsOfAll d mid now new t (represents t)
-            (opens_there now (opens t))
-            (lived.changes t));
+              (changes_touches g _ old mid makes)
+              (served_changes g size IsOfAll d mid now new t (represents t)
+              (opens_there now (opens t))
+              (lived.changes t));
           in_turn = subst
-            (λ (l : List Order). WritesLife g Fresh size first l old new)
-            (orders_are t)
-            (writes_made g Fresh size d first _ old now new t sized (represents t) (first_is t)
-            (fresh_opened t now (opens t))
-            (λ before. (let by = opened t in by.settled) (rest t))
-            (let wrote = p.writes t in wrote.all));
+              (λ (l : List Order). WritesLife g Fresh size first l old new)
+              (orders_are t)
+              (writes_made g Fresh size d first _ old now new t sized (represents t) (first_is t)
+              (fresh_opened t now (opens t))
+              (λ before. (let by = opened t in by.settled) (rest t))
+              (let wrote = p.writes t in wrote.all));
         };
         small = λ less.
             not_refused (make.TooSmall 6152 size) (small_refused set 0 65536 size less);

@@ -57,21 +57,21 @@ returns-in-Err-clause-runs g c =
       };
       writes = λ t s stands. record {
         touches = changes_wider g.P.Disk (IsOfServing IsOfCommands size (g.P.Disk.seen old))
-          (IsOfOpening size (g.P.Disk.seen old)) old mid (c.open.ensures.changes t)
-          (λ n x w. inl w);
+            (IsOfOpening size (g.P.Disk.seen old)) old mid (c.open.ensures.changes t)
+            (λ n x w. inl w);
         in_turn = λ set is.
             inr (changes_as g.P.Disk (IsOfOpening size (g.P.Disk.seen old)) old mid t
-          (c.open.ensures.changes t));
+            (c.open.ensures.changes t));
       };
       hears = λ t. record {
         unheard = λ fault none. c.open.ensures.quiet t;
         heard = λ s stands held port memory. (let early = c.in-Err.ensures.early t s stands in
-          early_unheld early.early held memory);
+            early_unheld early.early held memory);
         within = (let quiet = c.open.ensures.quiet t in
-          within_none (g.P.Disk.heard old) (g.P.Disk.heard mid) quiet.heard);
+            within_none (g.P.Disk.heard old) (g.P.Disk.heard mid) quiet.heard);
         end = λ done. absurd
-          (opening_undone g.P.Disk none_line old mid c.in-Err.status (c.in-Err.ensures.early t)
-          (c.in-Err.ensures.none t) done);
+            (opening_undone g.P.Disk none_line old mid c.in-Err.status (c.in-Err.ensures.early t)
+            (c.in-Err.ensures.none t) done);
       };
     }
 
@@ -93,46 +93,46 @@ returns-in-Err-hear_all-clause-runs g c =
         opened = λ s stands. record {
           item = λ set fits is.
               unheard_before g.P.Disk g.met.P.Disk.only_now old now s stands (same t)
-          (install_item s set) (inl refl) (inl (install_long s set)) (install_status s set)
-          fault status c.from.ensures
-          (λ long.
-          let opens = c.in-Ok.ensures.opens t in
-          let left : g.P.Disk.input_left mid ≡ g.P.Disk.input_left old = opens.left in
-          omega (arith, fits, c.in-Err-hear_all.ensures.long t (ap Err long), ap length left))
-          (held_reply (install_effect s set).reply);
+              (install_item s set) (inl refl) (inl (install_long s set)) (install_status s set)
+              fault status c.from.ensures
+              (λ long.
+              let opens = c.in-Ok.ensures.opens t in
+              let left : g.P.Disk.input_left mid ≡ g.P.Disk.input_left old = opens.left in
+              omega (arith, fits, c.in-Err-hear_all.ensures.long t (ap Err long), ap length left))
+              (held_reply (install_effect s set).reply);
           malformed = λ bad.
               unheard_malformed g.P.Disk g.met.P.Disk.only_now old now s stands (same t)
-          fault status c.from.ensures;
+              fault status c.from.ensures;
         };
         none = λ fault none. absurd (c.in-Ok.ensures.found t fault none);
       };
       writes = λ t s stands. record {
         touches =
             changes_then g.P.Disk (IsOfServing IsOfCommands size (g.P.Disk.seen old)) old mid now
-          (changes_wider g.P.Disk (IsOfServing IsOfCommands size (g.P.Disk.seen old))
-          (IsOfOpening size (g.P.Disk.seen old)) old mid (c.open.ensures.changes t)
-          (λ n x w. inl w))
-          (changes_hearing g.P.Disk _ mid now c.hear_all.ensures.size c.hear_all.ensures.seen
-          c.hear_all.ensures.crash c.hear_all.ensures.time);
+            (changes_wider g.P.Disk (IsOfServing IsOfCommands size (g.P.Disk.seen old))
+            (IsOfOpening size (g.P.Disk.seen old)) old mid (c.open.ensures.changes t)
+            (λ n x w. inl w))
+            (changes_hearing g.P.Disk _ mid now c.hear_all.ensures.size c.hear_all.ensures.seen
+            c.hear_all.ensures.crash c.hear_all.ensures.time);
         in_turn = λ set is.
             inr (changes_as g.P.Disk (IsOfOpening size (g.P.Disk.seen old)) old now t
-          (changes_then g.P.Disk (IsOfOpening size (g.P.Disk.seen old)) old mid now
-          (c.open.ensures.changes t)
-          (changes_hearing g.P.Disk _ mid now c.hear_all.ensures.size c.hear_all.ensures.seen
-          c.hear_all.ensures.crash c.hear_all.ensures.time)));
+            (changes_then g.P.Disk (IsOfOpening size (g.P.Disk.seen old)) old mid now
+            (c.open.ensures.changes t)
+            (changes_hearing g.P.Disk _ mid now c.hear_all.ensures.size c.hear_all.ensures.seen
+            c.hear_all.ensures.crash c.hear_all.ensures.time)));
       };
       hears = λ t. record {
         unheard = λ fault none. absurd (c.in-Ok.ensures.found t fault none);
         heard = λ s stands held. (let opens = c.in-Ok.ensures.opens t in
-          heard_from (g.P.Disk.input_left old) (g.P.Disk.input_left mid) (g.P.Disk.heard old)
-          (g.P.Disk.heard mid) (g.P.Disk.heard now) status opens.left opens.heard
-          (unheard_whole fault (g.P.Disk.input_left mid) (g.P.Disk.heard mid)
-          (g.P.Disk.heard now) status c.from.ensures
-          (λ long. c.in-Err-hear_all.ensures.long t (ap Err long))
-          (λ long. c.in-Err-hear_all.ensures.over t (ap Err long))));
+            heard_from (g.P.Disk.input_left old) (g.P.Disk.input_left mid) (g.P.Disk.heard old)
+            (g.P.Disk.heard mid) (g.P.Disk.heard now) status opens.left opens.heard
+            (unheard_whole fault (g.P.Disk.input_left mid) (g.P.Disk.heard mid)
+            (g.P.Disk.heard now) status c.from.ensures
+            (λ long. c.in-Err-hear_all.ensures.long t (ap Err long))
+            (λ long. c.in-Err-hear_all.ensures.over t (ap Err long))));
         within = (let opens = c.in-Ok.ensures.opens t in
-          subst (λ (l : List Hearing). HearsWithin l (g.P.Disk.heard now)) opens.heard
-          (c.hear_all.ensures.within t));
+            subst (λ (l : List Hearing). HearsWithin l (g.P.Disk.heard now)) opens.heard
+            (c.hear_all.ensures.within t));
         end = λ done. absurd (input_undone fault (sym c.from.ensures ∙ done));
       };
     }
@@ -154,49 +154,49 @@ returns-in-Err-read_set-clause-runs g c =
       runs = λ t. record {
         opened = λ s stands. record {
           item = λ set fits is. let opens = c.in-Ok.ensures.opens t in
-          let text : c.deref.result.now ≡ g.P.Disk.input_left old =
-          c.deref.ensures.value ∙ c.in-Ok-hear_all.ensures.bytes t ∙ opens.left in
-          short_before g.P.Disk g.met.P.Disk.only_now old now s stands (same t)
-          (install_item s set) (inl refl) (inl (install_long s set)) (install_status s set)
-          status
-          (c.from-in-Err-read_set.ensures
-          ∙ set_memory fault set
-          (subst
-          (λ (r : Result (List SetImage) SetFault).
-          Gives {X = List SetImage} {Y = List SetImage} (λ v. v) (Err fault) r)
-          (ap set_of text ∙ is) c.in-Err-read_set.ensures.exact));
+              let text : c.deref.result.now ≡ g.P.Disk.input_left old =
+              c.deref.ensures.value ∙ c.in-Ok-hear_all.ensures.bytes t ∙ opens.left in
+              short_before g.P.Disk g.met.P.Disk.only_now old now s stands (same t)
+              (install_item s set) (inl refl) (inl (install_long s set)) (install_status s set)
+              status
+              (c.from-in-Err-read_set.ensures
+              ∙ set_memory fault set
+              (subst
+              (λ (r : Result (List SetImage) SetFault).
+              Gives {X = List SetImage} {Y = List SetImage} (λ v. v) (Err fault) r)
+              (ap set_of text ∙ is) c.in-Err-read_set.ensures.exact));
           malformed = λ bad. unread_before g.P.Disk g.met.P.Disk.only_now old now s stands (same t)
-          fault status c.from-in-Err-read_set.ensures;
+              fault status c.from-in-Err-read_set.ensures;
         };
         none = λ fault none. absurd (c.in-Ok.ensures.found t fault none);
       };
       writes = λ t s stands. record {
         touches =
             changes_then g.P.Disk (IsOfServing IsOfCommands size (g.P.Disk.seen old)) old mid now
-          (changes_wider g.P.Disk (IsOfServing IsOfCommands size (g.P.Disk.seen old))
-          (IsOfOpening size (g.P.Disk.seen old)) old mid (c.open.ensures.changes t)
-          (λ n x w. inl w))
-          (changes_hearing g.P.Disk _ mid now c.hear_all.ensures.size c.hear_all.ensures.seen
-          c.hear_all.ensures.crash c.hear_all.ensures.time);
+            (changes_wider g.P.Disk (IsOfServing IsOfCommands size (g.P.Disk.seen old))
+            (IsOfOpening size (g.P.Disk.seen old)) old mid (c.open.ensures.changes t)
+            (λ n x w. inl w))
+            (changes_hearing g.P.Disk _ mid now c.hear_all.ensures.size c.hear_all.ensures.seen
+            c.hear_all.ensures.crash c.hear_all.ensures.time);
         in_turn = λ set is.
             inr (changes_as g.P.Disk (IsOfOpening size (g.P.Disk.seen old)) old now t
-          (changes_then g.P.Disk (IsOfOpening size (g.P.Disk.seen old)) old mid now
-          (c.open.ensures.changes t)
-          (changes_hearing g.P.Disk _ mid now c.hear_all.ensures.size c.hear_all.ensures.seen
-          c.hear_all.ensures.crash c.hear_all.ensures.time)));
+            (changes_then g.P.Disk (IsOfOpening size (g.P.Disk.seen old)) old mid now
+            (c.open.ensures.changes t)
+            (changes_hearing g.P.Disk _ mid now c.hear_all.ensures.size c.hear_all.ensures.seen
+            c.hear_all.ensures.crash c.hear_all.ensures.time)));
       };
       hears = λ t. record {
         unheard = λ fault none. absurd (c.in-Ok.ensures.found t fault none);
         heard = λ s stands held. (let opens = c.in-Ok.ensures.opens t in
-          heard_from (g.P.Disk.input_left old) (g.P.Disk.input_left mid) (g.P.Disk.heard old)
-          (g.P.Disk.heard mid) (g.P.Disk.heard now) status opens.left opens.heard
-          (λ port memory.
-          heard_whole (g.P.Disk.input_left mid) _ (g.P.Disk.heard mid) (g.P.Disk.heard now)
-          (c.in-Ok-hear_all.ensures.bytes t) c.in-Ok-hear_all.ensures.fits
-          (c.in-Ok-hear_all.ensures.heard t)));
+            heard_from (g.P.Disk.input_left old) (g.P.Disk.input_left mid) (g.P.Disk.heard old)
+            (g.P.Disk.heard mid) (g.P.Disk.heard now) status opens.left opens.heard
+            (λ port memory.
+            heard_whole (g.P.Disk.input_left mid) _ (g.P.Disk.heard mid) (g.P.Disk.heard now)
+            (c.in-Ok-hear_all.ensures.bytes t) c.in-Ok-hear_all.ensures.fits
+            (c.in-Ok-hear_all.ensures.heard t)));
         within = (let opens = c.in-Ok.ensures.opens t in
-          subst (λ (l : List Hearing). HearsWithin l (g.P.Disk.heard now)) opens.heard
-          (c.hear_all.ensures.within t));
+            subst (λ (l : List Hearing). HearsWithin l (g.P.Disk.heard now)) opens.heard
+            (c.hear_all.ensures.within t));
         end = λ done. absurd (set_undone fault (sym c.from-in-Err-read_set.ensures ∙ done));
       };
     }
@@ -228,74 +228,74 @@ returns-clause-runs g c =
       runs = λ t. record {
         opened = λ s stands. record {
           item = λ set fits is. let found : read ≡ set =
-          same_set _ _ set read (text t) c.in-Ok-read_set.ensures.exact is in
-          let runs = runs_act g.P.Disk g.met.P.Disk.only_now (install_act read)
-          (install_is_act read) c.in-Ok.device s old now new c.install_set.result (same t) sized
-          stands
-          (subst (λ (n : ℕ). Represents c.in-Ok.device n (g.P.Disk.seen now)) (sym sized)
-          (represents t))
-          t p in
-          subst
-          (λ (x : Status).
-          RunsOrFails g.P.Disk old new x s (install_item s set) (install_status s set))
-          (sym c.ended.ensures)
-          (subst
-          (λ (x : List SetImage).
-          RunsOrFails g.P.Disk old new (status_in c.install_set.result) s (install_item s x)
-          (install_status s x))
-          found
-          (⊎_elim (λ item. inl item) (λ short. inr (inl short)) runs));
+              same_set _ _ set read (text t) c.in-Ok-read_set.ensures.exact is in
+              let runs = runs_act g.P.Disk g.met.P.Disk.only_now (install_act read)
+              (install_is_act read) c.in-Ok.device s old now new c.install_set.result (same t) sized
+              stands
+              (subst (λ (n : ℕ). Represents c.in-Ok.device n (g.P.Disk.seen now)) (sym sized)
+              (represents t))
+              t p in
+              subst
+              (λ (x : Status).
+              RunsOrFails g.P.Disk old new x s (install_item s set) (install_status s set))
+              (sym c.ended.ensures)
+              (subst
+              (λ (x : List SetImage).
+              RunsOrFails g.P.Disk old new (status_in c.install_set.result) s (install_item s x)
+              (install_status s x))
+              found
+              (⊎_elim (λ item. inl item) (λ short. inr (inl short)) runs));
           malformed = λ bad. ⊎_elim
-          (λ long.
-          absurd (omega (
-            arith,
-            long,
-            c.in-Ok-hear_all.ensures.fits,
-            ap length (sym c.deref.ensures.value ∙ text t),
-          )))
-          (λ bad. not_both _ _ read bad.0 (text t) c.in-Ok-read_set.ensures.exact bad.1)
-          bad;
+              (λ long.
+              absurd (omega (
+                arith,
+                long,
+                c.in-Ok-hear_all.ensures.fits,
+                ap length (sym c.deref.ensures.value ∙ text t),
+              )))
+              (λ bad. not_both _ _ read bad.0 (text t) c.in-Ok-read_set.ensures.exact bad.1)
+              bad;
         };
         none = λ fault none. absurd (c.in-Ok.ensures.found t fault none);
       };
       writes = λ t s stands. record {
         touches =
             served_changes g.P.Disk size IsOfCommands c.in-Ok.device old now new t (represents t)
-          (changes_then g.P.Disk (IsOfOpening size (g.P.Disk.seen old)) old mid now
-          (c.open.ensures.changes t)
-          (changes_hearing g.P.Disk _ mid now c.hear_all.ensures.size c.hear_all.ensures.seen
-          c.hear_all.ensures.crash c.hear_all.ensures.time))
-          (c.install_set.ensures.changes t);
+            (changes_then g.P.Disk (IsOfOpening size (g.P.Disk.seen old)) old mid now
+            (c.open.ensures.changes t)
+            (changes_hearing g.P.Disk _ mid now c.hear_all.ensures.size c.hear_all.ensures.seen
+            c.hear_all.ensures.crash c.hear_all.ensures.time))
+            (c.install_set.ensures.changes t);
         in_turn = λ set is. let found : read ≡ set =
-          same_set _ _ set read (text t) c.in-Ok-read_set.ensures.exact is in
-          subst
-          (λ (x : List SetImage).
-          WritesInstall g.P.Disk (IsOfOpening size (g.P.Disk.seen old)) size x old new)
-          found
-          (writes_installed g.P.Disk (IsOfOpening size (g.P.Disk.seen old)) size
-          c.in-Ok.device read old now new t sized (represents t)
-          (changes_then g.P.Disk (IsOfOpening size (g.P.Disk.seen old)) old mid now
-          (c.open.ensures.changes t)
-          (changes_hearing g.P.Disk _ mid now c.hear_all.ensures.size c.hear_all.ensures.seen
-          c.hear_all.ensures.crash c.hear_all.ensures.time))
-          (same t).settled (c.install_set.ensures.writes t));
+            same_set _ _ set read (text t) c.in-Ok-read_set.ensures.exact is in
+            subst
+            (λ (x : List SetImage).
+            WritesInstall g.P.Disk (IsOfOpening size (g.P.Disk.seen old)) size x old new)
+            found
+            (writes_installed g.P.Disk (IsOfOpening size (g.P.Disk.seen old)) size
+            c.in-Ok.device read old now new t sized (represents t)
+            (changes_then g.P.Disk (IsOfOpening size (g.P.Disk.seen old)) old mid now
+            (c.open.ensures.changes t)
+            (changes_hearing g.P.Disk _ mid now c.hear_all.ensures.size c.hear_all.ensures.seen
+            c.hear_all.ensures.crash c.hear_all.ensures.time))
+            (same t).settled (c.install_set.ensures.writes t));
       };
       hears = λ t. record {
         unheard = λ fault none. absurd (c.in-Ok.ensures.found t fault none);
         heard = λ s stands held. (let opens = c.in-Ok.ensures.opens t in
-          let quiet = p.quiet t in
-          heard_from (g.P.Disk.input_left old) (g.P.Disk.input_left mid) (g.P.Disk.heard old)
-          (g.P.Disk.heard mid) (g.P.Disk.heard new) status opens.left opens.heard
-          (λ port memory.
-          heard_whole (g.P.Disk.input_left mid) _ (g.P.Disk.heard mid) (g.P.Disk.heard new)
-          (c.in-Ok-hear_all.ensures.bytes t) c.in-Ok-hear_all.ensures.fits
-          (subst (λ (l : List Hearing). HearsToEnd (g.P.Disk.heard mid) l) (sym quiet.heard)
-          (c.in-Ok-hear_all.ensures.heard t))));
+            let quiet = p.quiet t in
+            heard_from (g.P.Disk.input_left old) (g.P.Disk.input_left mid) (g.P.Disk.heard old)
+            (g.P.Disk.heard mid) (g.P.Disk.heard new) status opens.left opens.heard
+            (λ port memory.
+            heard_whole (g.P.Disk.input_left mid) _ (g.P.Disk.heard mid) (g.P.Disk.heard new)
+            (c.in-Ok-hear_all.ensures.bytes t) c.in-Ok-hear_all.ensures.fits
+            (subst (λ (l : List Hearing). HearsToEnd (g.P.Disk.heard mid) l) (sym quiet.heard)
+            (c.in-Ok-hear_all.ensures.heard t))));
         within = (let opens = c.in-Ok.ensures.opens t in
-          let quiet = p.quiet t in
-          subst (λ (l : List Hearing). HearsWithin (g.P.Disk.heard old) l) (sym quiet.heard)
-          (subst (λ (l : List Hearing). HearsWithin l (g.P.Disk.heard now)) opens.heard
-          (c.hear_all.ensures.within t)));
+            let quiet = p.quiet t in
+            subst (λ (l : List Hearing). HearsWithin (g.P.Disk.heard old) l) (sym quiet.heard)
+            (subst (λ (l : List Hearing). HearsWithin l (g.P.Disk.heard now)) opens.heard
+            (c.hear_all.ensures.within t)));
         end = λ done. (let quiet = p.quiet t in quiet.left) ∙ c.in-Ok-hear_all.ensures.end t;
       };
     }

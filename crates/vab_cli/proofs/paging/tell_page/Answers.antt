@@ -17,13 +17,13 @@ use Rattle.vab_cli.proofs.paging.tell_page.Goals as goal
 
 pub returns-in-Err-clause-tells : goal.returns-in-Err-clause-tells
 returns-in-Err-clause-tells g c = record {
-      runs = λ t. record {
-        opened = λ s stands. inr (inr (c.in-Err.ensures.early t s stands));
-        none = λ fault none. c.in-Err.ensures.none t fault none;
-      };
-      quiet = λ t. c.open.ensures.quiet t;
-      touches = λ t. c.open.ensures.changes t;
-    }
+  runs = λ t. record {
+    opened = λ s stands. inr (inr (c.in-Err.ensures.early t s stands));
+    none = λ fault none. c.in-Err.ensures.none t fault none;
+  };
+  quiet = λ t. c.open.ensures.quiet t;
+  touches = λ t. c.open.ensures.changes t;
+}
 
 pub returns-in-Err-status_page-clause-tells : goal.returns-in-Err-status_page-clause-tells
 returns-in-Err-status_page-clause-tells g c =
@@ -32,8 +32,8 @@ returns-in-Err-status_page-clause-tells g c =
     record {
       runs = λ t. record {
         opened = λ s stands. short_before g.P.Disk g.met.P.Disk.only_now old mid s stands
-          (same_opened g.P.Disk (g.P.Disk.size old) old mid (c.in-Ok.ensures.opens t))
-          (page_item s) (inl refl) (inr (λ image at. at)) Done NoMemory refl;
+            (same_opened g.P.Disk (g.P.Disk.size old) old mid (c.in-Ok.ensures.opens t))
+            (page_item s) (inl refl) (inr (λ image at. at)) Done NoMemory refl;
         none = λ fault none. absurd (c.in-Ok.ensures.found t fault none);
       };
       quiet = λ t. c.open.ensures.quiet t;
@@ -58,26 +58,26 @@ returns-in-Ok-say_all-clause-tells g c =
     record {
       runs = λ t. record {
         opened = λ s stands. let opens = c.in-Ok.ensures.opens t in
-          let here = opened_in g.P.Disk g.met.P.Disk.only_now size old mid s opens stands in
-          let is : c.deref.result.now ≡ page s.state =
-          text
-          ∙ ap (λ (m : Mounted). page m.state)
-          (mounted_is d size image s (c.in-Ok.ensures.represents t) here) in
-          inl (runs_done g.P.Disk g.met.P.Disk.only_now size s (page_item s) (inl refl)
-          (inr (λ image at. at)) Done old mid new (same_opened g.P.Disk size old mid opens) stands
-          Done refl
-          (does_line g.P.Disk size s (page s.state) mid new (Ok Done) here
-          (subst
-          (λ (l : List ℕ). Says g.P.Disk {A = Status} {E = Status} l mid new (Ok Done)) is
-          (record {
-            told = c.in-Ok-say_all.ensures.told t;
-            front = c.say_all.ensures.front t;
-            seen = c.say_all.ensures.seen t;
-            crash = c.say_all.ensures.crash t;
-            left = c.say_all.ensures.left t;
-            heard = c.say_all.ensures.heard t;
-            time = c.say_all.ensures.time t;
-          }))));
+            let here = opened_in g.P.Disk g.met.P.Disk.only_now size old mid s opens stands in
+            let is : c.deref.result.now ≡ page s.state =
+            text
+            ∙ ap (λ (m : Mounted). page m.state)
+            (mounted_is d size image s (c.in-Ok.ensures.represents t) here) in
+            inl (runs_done g.P.Disk g.met.P.Disk.only_now size s (page_item s) (inl refl)
+            (inr (λ image at. at)) Done old mid new (same_opened g.P.Disk size old mid opens) stands
+            Done refl
+            (does_line g.P.Disk size s (page s.state) mid new (Ok Done) here
+            (subst
+            (λ (l : List ℕ). Says g.P.Disk {A = Status} {E = Status} l mid new (Ok Done)) is
+            (record {
+              told = c.in-Ok-say_all.ensures.told t;
+              front = c.say_all.ensures.front t;
+              seen = c.say_all.ensures.seen t;
+              crash = c.say_all.ensures.crash t;
+              left = c.say_all.ensures.left t;
+              heard = c.say_all.ensures.heard t;
+              time = c.say_all.ensures.time t;
+            }))));
         none = λ fault none. absurd (c.in-Ok.ensures.found t fault none);
       };
       quiet = λ t. record {
@@ -109,26 +109,26 @@ returns-clause-tells g c =
     record {
       runs = λ t. record {
         opened = λ s stands. let opens = c.in-Ok.ensures.opens t in
-          let here = opened_in g.P.Disk g.met.P.Disk.only_now size old mid s opens stands in
-          let is : c.deref.result.now ≡ page s.state =
-          text
-          ∙ ap (λ (m : Mounted). page m.state)
-          (mounted_is d size image s (c.in-Ok.ensures.represents t) here) in
-          inl (runs_failed g.P.Disk g.met.P.Disk.only_now size s (page_item s) (inl refl)
-          (inr (λ image at. at)) Done old mid new (same_opened g.P.Disk size old mid opens) stands
-          Port (inr refl) (not_failed Done tt)
-          (does_line g.P.Disk size s (page s.state) mid new (Err Port) here
-          (subst
-          (λ (l : List ℕ). Says g.P.Disk {A = Status} {E = Status} l mid new (Err Port)) is
-          (record {
-            told = tt;
-            front = c.say_all.ensures.front t;
-            seen = c.say_all.ensures.seen t;
-            crash = c.say_all.ensures.crash t;
-            left = c.say_all.ensures.left t;
-            heard = c.say_all.ensures.heard t;
-            time = c.say_all.ensures.time t;
-          }))));
+            let here = opened_in g.P.Disk g.met.P.Disk.only_now size old mid s opens stands in
+            let is : c.deref.result.now ≡ page s.state =
+            text
+            ∙ ap (λ (m : Mounted). page m.state)
+            (mounted_is d size image s (c.in-Ok.ensures.represents t) here) in
+            inl (runs_failed g.P.Disk g.met.P.Disk.only_now size s (page_item s) (inl refl)
+            (inr (λ image at. at)) Done old mid new (same_opened g.P.Disk size old mid opens) stands
+            Port (inr refl) (not_failed Done tt)
+            (does_line g.P.Disk size s (page s.state) mid new (Err Port) here
+            (subst
+            (λ (l : List ℕ). Says g.P.Disk {A = Status} {E = Status} l mid new (Err Port)) is
+            (record {
+              told = tt;
+              front = c.say_all.ensures.front t;
+              seen = c.say_all.ensures.seen t;
+              crash = c.say_all.ensures.crash t;
+              left = c.say_all.ensures.left t;
+              heard = c.say_all.ensures.heard t;
+              time = c.say_all.ensures.time t;
+            }))));
         none = λ fault none. absurd (c.in-Ok.ensures.found t fault none);
       };
       quiet = λ t. record {

@@ -558,4 +558,3 @@ returns-in-Demo-clause-explains g c = λ t.
     c.demo.new.cause)
     (sym is)
     (c.demo.ensures.unmade t)
-
