@@ -1,10 +1,13 @@
 pub mod BlockLaws
 pub mod ChunkLaws
+pub mod FreeLaws
 pub mod IndexLaws
 pub mod PartLaws
 pub mod ReachedLaws
 pub mod ScanLaws
 pub mod ViewLaws
+pub mod SettingLaws
+pub mod SlotLaws
 pub mod SortLaws
 pub mod StoredLaws
 pub mod WrittenLaws

@@ -3,6 +3,8 @@ pub mod Index
 pub mod Layout
 pub mod Reached
 pub mod Scan
+pub mod Sectors
 pub mod Seen
+pub mod Setting
 pub mod View
 pub mod Writing

@@ -4,10 +4,14 @@ ghost use Rattle.std.specs.Prelude.{◌≡◌, ℕ, ◌+◌, ◌-◌, ◌*◌, �
 ghost use Rattle.std.specs.Prelude.{IsErrOf, []};
 ghost use Rattle.vab_store.specs.Scan.{repeat_of, unless_repeated};
 ghost use Rattle.std.specs.List.Sorted.{IsStrictlyIncreasing};
+ghost use Rattle.vab_space.specs.Chunks.{new_chunk_of};
+ghost use Rattle.vab_store.specs.Setting.{entry_place, set_entry, HaveData, IsLowestFree};
 ghost use Rattle.vab_store.specs.View.{exception_at, view_of};
 ghost use Rattle.vab_store.specs.Writing.{planned_of};
 
-use crate::index::{Key, Place, earlier, first_tie, index_of, place_of, repeat_by, sorted_by};
+use crate::index::{
+    Key, Place, earlier, first_gap, first_tie, index_of, place_of, rank_of, repeat_by, sorted_by,
+};
 use crate::writer::planned;
 use crate::{Steps, StoreFault};
 use std::alloc::Global;
@@ -132,6 +136,52 @@ impl StoreView {
         ensures { result ≡ view_of self.now old }
     {
         self.find_from::<Brand>(old, Blank::new(1))
+    }
+
+    /// The place of the exception that has this old chunk, or the one behind all where none has it.
+    pub fn place_of(&self, old: u64) -> u64
+        ensures { result ≡ entry_place self.now old }
+    {
+        let rank = rank_of(&self.index, old);
+        if rank < self.index.len() && self.index[rank].key == old {
+            self.index[rank].at
+        } else {
+            self.items.len() as u64
+        }
+    }
+
+    /// These exceptions with a new chunk for this old one: in the place of the exception that has
+    /// the old one, or behind all.
+    pub fn with_chunk(&self, old: u64, new: u64) -> Result<StoreView, NoMemory>
+        ensures { IfOk result (λ v. v ≡ set_entry self.now old new) }
+    {
+        let alloc = *self.items.allocator();
+        let mut items = Vec::from_slice(alloc, &self.items)?;
+        let mut index = Vec::from_slice(alloc, &self.index)?;
+        let exception = Exception {
+            old_chunk: old,
+            new_chunk: new,
+        };
+        let at = self.place_of(old);
+        if at < items.len() as u64 {
+            items[at as usize] = exception;
+            return Ok(StoreView { items, index });
+        }
+        index.insert(rank_of(&self.index, old), Place { key: old, at })?;
+        items.push(exception)?;
+        Ok(StoreView { items, index })
+    }
+
+    /// The lowest data chunk that no exception has. So few are taken before it that as many
+    /// exceptions have them.
+    pub fn free_chunk(&self, chunk: Chunk) -> Result<u64, NoMemory>
+        requires small { length self.now < 2 ^ 62 }
+        requires chunks { HaveData chunk self.now }
+        ensures lowest { IfOk result (IsLowestFree chunk self.now) }
+        ensures most { IfOk result (λ c. c ≤ new_chunk_of chunk (length self.now)) }
+    {
+        let places = sorted_by(*self.items.allocator(), &self.items, Key::New)?;
+        Ok(first_gap(&places, chunk))
     }
 
     /// Drops the last exception.
