@@ -1,8 +1,8 @@
 -- Entries that are zeroed.
-use Rattle.std.proofs.Common.{◌≡◌, ◌≢◌, ◌⊎◌, inl, inr, ⊎_elim, ℕ, ◌+◌, ◌-◌, ◌*◌, ◌/◌, ◌≤◌, ◌<◌, min}
+use Rattle.std.proofs.Common.{◌≡◌, ◌≢◌, ◌⊎◌, inl, inr, ⊎_elim, ℕ, ◌+◌, ◌-◌, ◌*◌, ◌≤◌, ◌<◌, min}
 use Rattle.std.proofs.Common.{List, length, get_or, refl, sym, ◌∙◌, ap, subst, arith}
 use Rattle.std.specs.Int.{w64, to_le_bytes, from_le_bytes}
-use Rattle.std.proofs.lemmas.Bool.{cases_lt, cases_eq}
+use Rattle.std.proofs.lemmas.Bool.{cases_lt}
 use Rattle.std.proofs.lemmas.List.{ext_get_or, get_or-replicate}
 use Rattle.std.proofs.lemmas.Nat.{from_le_bytes-to_le_bytes_8}
 use Rattle.vab_bytes.specs.Number.{field, le_at, put_at}
@@ -17,14 +17,9 @@ use Rattle.vab_disk.specs.Disk.{set_sector, IsAt}
 use Rattle.vab_disk.specs.Calls.{Touches}
 use Rattle.vab_disk.proofs.CallLaws.{wrote_here, wrote_there, quiet_then, same_then, touches_wider}
 use Rattle.vab_disk.proofs.CallLaws.{touches_then}
-use Rattle.std.specs.Prelude.{slice_index}
 use Rattle.vab_space.specs.declared.Chunk.{Chunk}
-use Rattle.vab_space.specs.Chunks.{page_block}
-use Rattle.vab_space.proofs.ChunkLaws.{pages_ascend, page_inside}
-use Rattle.vab_store.specs.Layout.{pages_of, IsApart}
-use Rattle.vab_store.proofs.ChunkLaws.{apart_of}
-use Rattle.vab_merge.specs.Cleared.{sector_entries, IsCleared, IsClearedAt, IsOfThem, IsClearing}
-use Rattle.vab_merge.specs.Cleared.{page_sector}
+use Rattle.vab_store.specs.Sectors.{page_sector, sector_entries}
+use Rattle.vab_merge.specs.Cleared.{IsCleared, IsClearedAt, IsOfThem, IsClearing}
 
 -- ---- one entry that is put
 
@@ -167,34 +162,6 @@ entry_gone from to j old new is over below room =
     let old_gone = number (16 * j) (omega arith) (omega arith) in
     let new_gone = number (16 * j + 8) (omega arith) (omega arith) in
     (λ k. record { old_chunk = old_gone k; new_chunk = new_gone k })
-
--- ---- the sectors of the pages
-
--- pages stand in blocks of their own
-pages_other : (k : Chunk) (p q : ℕ) → p ≢ q → page_block k p ≢ page_block k q
-pages_other k p q other same =
-    elim (cases_lt p q) [
-      | inl less ↦ omega (arith, same, pages_ascend k p q less)
-      | inr more ↦ omega (arith, same, pages_ascend k q p (omega (arith, more, other)))
-    ]
-
-pub sector_other : (k : Chunk) (store : List ℕ) (i n : ℕ)
-    → IsApart store
-    → i / 8 < pages_of k store
-    → n / 8 < pages_of k store
-    → i ≢ n
-    → page_sector k store i ≢ page_sector k store n
-sector_other k store i n apart i_in n_in other same =
-    elim (cases_eq (i / 8) (n / 8)) [
-      | inl one ↦
-          omega (arith, one, other, same, ap (λ (p : ℕ). slice_index store (page_block k p)) one)
-      | inr two ↦
-          ⊎_elim (λ before. omega (arith, before, same)) (λ behind. omega (arith, behind, same))
-          (apart_of store (page_block k (i / 8)) (page_block k (n / 8)) apart
-          (page_inside k (length store) (i / 8) i_in)
-          (page_inside k (length store) (n / 8) n_in)
-          (pages_other k (i / 8) (n / 8) two))
-    ]
 
 -- ---- one sector more
 

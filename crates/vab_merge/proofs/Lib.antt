@@ -4,5 +4,4 @@ pub mod MergeLaws
 pub mod PairLaws
 mod RunLaws
 mod RunSteps
-pub mod SlotLaws
 pub mod TurnLaws

@@ -23,13 +23,14 @@ use Rattle.vab_store.proofs.ScanLaws.{scan_of_is}
 use Rattle.vab_store.proofs.StoredLaws.{stored_some, stored_none}
 use Rattle.vab_store.proofs.ViewLaws.{view_in, view_out, view_chunk, take-at, take_fits, view_kept}
 use Rattle.vab_store.proofs.ViewLaws.{view_dropped, view_other}
+use Rattle.vab_store.specs.Sectors.{page_sector}
 use Rattle.vab_merge.specs.Copied.{InCopied, AreCopied}
-use Rattle.vab_merge.specs.Cleared.{IsClearedAt, IsClearing, AreCleared, page_sector}
+use Rattle.vab_merge.specs.Cleared.{IsClearedAt, IsClearing, AreCleared}
 use Rattle.vab_merge.specs.Merged.{CanMerge, WithoutLast}
 use Rattle.vab_merge.proofs.CopyLaws.{MayCopy, store_kept, base_kept, copied_of_base}
 use Rattle.vab_merge.proofs.CopyLaws.{copied_of_other}
-use Rattle.vab_merge.proofs.ClearLaws.{sector_other, entry_kept, entry_gone}
-use Rattle.vab_merge.proofs.SlotLaws.{AreWhole, slot_in_sector, slot_same}
+use Rattle.vab_merge.proofs.ClearLaws.{entry_kept, entry_gone}
+use Rattle.vab_store.proofs.SlotLaws.{AreWhole, slot_in_sector, slot_same, sector_other}
 
 pub may_copy : (k : Chunk) (base store : List ℕ) (es : List Exception) (size : ℕ)
     → CanMerge k base store es size

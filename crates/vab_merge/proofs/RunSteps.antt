@@ -17,9 +17,10 @@ use Rattle.std.proofs.lemmas.List.{take_all}
 use Rattle.vab_store.specs.Seen.{view_block}
 use Rattle.vab_store.proofs.ScanLaws.{scan_of_ok}
 use Rattle.vab_store.proofs.ChunkLaws.{apart_sector}
+use Rattle.vab_store.specs.Sectors.{page_sector}
 use Rattle.vab_merge.specs.Run.{IsRun, IsLongest}
 use Rattle.vab_merge.specs.Copied.{InCopied, AreCopied}
-use Rattle.vab_merge.specs.Cleared.{IsClearedAt, IsClearing, AreCleared, page_sector}
+use Rattle.vab_merge.specs.Cleared.{IsClearedAt, IsClearing, AreCleared}
 use Rattle.vab_merge.specs.Merged.{CanMerge, WithoutLast, MayRun, LeavesMerged, IsMerging}
 use Rattle.vab_merge.proofs.CopyLaws.{copied_of_base}
 use Rattle.vab_merge.proofs.RunLaws.{run_fewer, run_one}

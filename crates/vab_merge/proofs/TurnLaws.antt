@@ -8,12 +8,13 @@ use Rattle.vab_space.specs.declared.Chunk.{Chunk}
 use Rattle.vab_exceptions.specs.declared.area.Exception.{Exception}
 use Rattle.vab_store.specs.View.{Fits}
 use Rattle.vab_store.proofs.ViewLaws.{take_fits}
+use Rattle.vab_store.specs.Sectors.{page_sector}
 use Rattle.vab_merge.specs.declared.merge.Ran.{Ran}
 use Rattle.vab_merge.specs.declared.merge.Ran.TheVariants.{Merged, Empty}
 use Rattle.vab_merge.specs.Copied.{InBlocksOf}
-use Rattle.vab_merge.specs.Cleared.{IsClearing, page_sector}
+use Rattle.vab_merge.specs.Cleared.{IsClearing}
 use Rattle.vab_merge.specs.Merged.{MayMerge, CanMerge, MayRun, IsRan, dropped_by, IsMerging}
-use Rattle.vab_merge.specs.Merged.{entry_sector}
+use Rattle.vab_store.specs.Sectors.{entry_sector}
 use Rattle.vab_merge.proofs.RunLaws.{run_fewer}
 use Rattle.vab_merge.proofs.RunSteps.{may_none}
 

@@ -1,16 +1,9 @@
 -- Entries that are zeroed in their sectors.
-use Rattle.std.specs.Prelude.{◌≡◌, ◌⊎◌, ℕ, ◌+◌, ◌-◌, ◌*◌, ◌/◌, ◌%◌, ◌≤◌, ◌<◌, min, List, length}
+use Rattle.std.specs.Prelude.{◌≡◌, ◌⊎◌, ℕ, ◌-◌, ◌*◌, ◌/◌, ◌≤◌, ◌<◌, min, List, length}
 use Rattle.std.specs.Prelude.{slice_index}
 use Rattle.vab_disk.specs.Disk.{Image}
 use Rattle.vab_space.specs.declared.Chunk.{Chunk}
-use Rattle.vab_space.specs.Chunks.{page_block}
-
--- how many entries a sector has, and how many sectors a page
-abbrev pub sector_entries : ℕ
-sector_entries = 32
-
-abbrev pub page_sectors : ℕ
-page_sectors = 8
+use Rattle.vab_store.specs.Sectors.{sector_entries, page_sector}
 
 -- how many bytes an entry has
 abbrev pub entry_long : ℕ
@@ -24,11 +17,6 @@ pub record IsCleared (from to : ℕ) (old new : List ℕ) : Type 0 where
       → (i < entry_long * from) ⊎ (entry_long * to ≤ i)
       → slice_index new i ≡ slice_index old i
   pub gone : (i : ℕ) → entry_long * from ≤ i → i < entry_long * to → slice_index new i ≡ 0
-
--- the i-th sector of a store's pages, counted through them
-abbrev pub page_sector : Chunk → List ℕ → ℕ → ℕ
-page_sector k store i =
-    slice_index store (page_block k (i / page_sectors)) + i % page_sectors
 
 -- the entries from the first up to the end that stand in the i-th sector
 abbrev pub IsClearedAt : ℕ → ℕ → ℕ → List ℕ → List ℕ → Type 0

@@ -1,5 +1,5 @@
 -- What a merge leaves of a partition that is read through its store.
-use Rattle.std.specs.Prelude.{◌≡◌, ◌⊎◌, ℕ, ◌-◌, ◌/◌, ◌≤◌, ◌<◌, List, length, take, Ok}
+use Rattle.std.specs.Prelude.{◌≡◌, ◌⊎◌, ℕ, ◌-◌, ◌≤◌, ◌<◌, List, length, take, Ok}
 use Rattle.vab_space.specs.declared.Chunk.{Chunk}
 use Rattle.vab_space.specs.Chunks.{entries_in}
 use Rattle.vab_disk.specs.Disk.{Image, Outcome}
@@ -10,7 +10,7 @@ use Rattle.vab_store.specs.Seen.{view_block}
 use Rattle.vab_store.specs.View.{Fits}
 use Rattle.vab_merge.specs.Run.{IsRun, IsLongest}
 use Rattle.vab_merge.specs.Copied.{InBlocksOf}
-use Rattle.vab_merge.specs.Cleared.{page_sector, sector_entries, IsClearing}
+use Rattle.vab_merge.specs.Cleared.{IsClearing}
 use Rattle.vab_merge.specs.declared.merge.Ran.{Ran}
 use Rattle.vab_merge.specs.declared.merge.Ran.TheVariants.{Merged, Empty}
 
@@ -60,10 +60,6 @@ pub record LeavesMerged
   pub dropped : ℕ
   pub may_run : MayRun k es most dropped
   pub without : WithoutLast k base store es dropped old o.image
-
--- the sector of the j-th entry
-abbrev pub entry_sector : Chunk → List ℕ → ℕ → ℕ
-entry_sector k store j = page_sector k store (j / sector_entries)
 
 -- What is written for exceptions that are merged, the last of a run: a sector of the blocks of one;
 -- or one of their entries, as it was but for those from some place on, all of which are zeros.

@@ -3,7 +3,8 @@
 ghost use Rattle.std.specs.Prelude.{◌≡◌, ℕ, ◌+◌, ◌-◌, ◌/◌, ◌<◌, ◌≤◌, length, slice_index, OnOk};
 ghost use Rattle.vab_disk.specs.Calls.{Touches, FailsWithDisk};
 ghost use Rattle.vab_store.specs.Layout.{slots_of, pages_of, IsOnDisk, IsApart};
-ghost use Rattle.vab_merge.specs.Cleared.{page_sector, IsCleared, IsClearing, AreCleared};
+ghost use Rattle.vab_store.specs.Sectors.{page_sector};
+ghost use Rattle.vab_merge.specs.Cleared.{IsCleared, IsClearing, AreCleared};
 
 use vab_bytes::put_le64;
 use vab_disk::Disk;

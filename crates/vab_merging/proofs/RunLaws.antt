@@ -22,7 +22,7 @@ use Rattle.vab_store.proofs.ViewLaws.{take-at}
 use Rattle.vab_merge.specs.Copied.{InChunk, InBlocksOf}
 use Rattle.vab_merge.specs.Run.{IsLongest}
 use Rattle.vab_merge.specs.Merged.{MayMerge, CanMerge, WithoutLast, IsMerging}
-use Rattle.vab_merge.specs.Merged.{entry_sector}
+use Rattle.vab_store.specs.Sectors.{entry_sector}
 use Rattle.vab_merge.proofs.TurnLaws.{IsMergedSector, merged_sector}
 use Rattle.vab_device.specs.declared.device.Part.{Part}
 use Rattle.vab_device.specs.declared.device.PartImage.{PartImage}

@@ -14,7 +14,7 @@ use Rattle.vab_store.specs.Seen.{chosen_bytes, view_block}
 use Rattle.vab_store.specs.View.{stored_at, Fits}
 use Rattle.vab_store.proofs.StoredLaws.{stored_inside}
 use Rattle.vab_merge.specs.Copied.{InBlocksOf}
-use Rattle.vab_merge.specs.Merged.{entry_sector}
+use Rattle.vab_store.specs.Sectors.{entry_sector}
 use Rattle.vab_merge.proofs.TurnLaws.{IsMergedSector}
 use Rattle.vab_device.specs.Mounted.{bytes_at}
 use Rattle.vab_device.specs.Reading.{IsOfBlocks}

@@ -3,7 +3,7 @@ use Rattle.std.specs.Prelude.{◌≡◌, ◌⊎◌, ℕ, ◌-◌, ◌<◌, List,
 use Rattle.vab_space.specs.declared.Chunk.{Chunk}
 use Rattle.vab_exceptions.specs.declared.area.Exception.{Exception}
 use Rattle.vab_merge.specs.Copied.{InBlocksOf}
-use Rattle.vab_merge.specs.Merged.{entry_sector}
+use Rattle.vab_store.specs.Sectors.{entry_sector}
 use Rattle.vab_device.specs.declared.device.Device.{Device}
 use Rattle.vab_device.specs.declared.device.PartImage.TheVariants.{Written}
 use Rattle.vab_merging.specs.Turns.{next_of, part_at, turned}

@@ -5,8 +5,10 @@ use Rattle.vab_disk.specs.Calls.{Touches}
 use Rattle.vab_disk.specs.Disk.{Image}
 use Rattle.vab_disk.proofs.CallLaws.{touches_none, touches_reads, touches_then}
 use Rattle.vab_space.specs.declared.Chunk.{Chunk}
-use Rattle.vab_merge.specs.Cleared.{IsClearedAt, IsClearing, IsOfThem, page_sector}
-use Rattle.vab_merge.proofs.ClearLaws.{cleared_at, sector_other, there_is, here_is}
+use Rattle.vab_store.specs.Sectors.{page_sector}
+use Rattle.vab_store.proofs.SlotLaws.{sector_other}
+use Rattle.vab_merge.specs.Cleared.{IsClearedAt, IsClearing, IsOfThem}
+use Rattle.vab_merge.proofs.ClearLaws.{cleared_at, there_is, here_is}
 use Rattle.vab_merge.proofs.ClearLaws.{touches_clearing}
 use Rattle.vab_merge.proofs.clear.clear_entries.Goals as goal
 

@@ -1,6 +1,7 @@
 use Rattle.std.proofs.Common.{◌≡◌, ◌*◌, ℕ, ◌<◌, ◌≤◌}
 use Rattle.vab_disk.specs.Calls.{Touches}
-use Rattle.vab_merge.specs.Cleared.{IsClearing, IsClearedAt, IsOfThem, page_sector}
+use Rattle.vab_store.specs.Sectors.{page_sector}
+use Rattle.vab_merge.specs.Cleared.{IsClearing, IsClearedAt, IsOfThem}
 use Rattle.vab_merge.proofs.clear.clear_entries.Given as goal
 
 abbrev pub invariant-loop-i : goal.invariant-loop-i
