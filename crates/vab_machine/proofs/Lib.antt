@@ -3,7 +3,6 @@ pub mod Blocks
 pub mod Turns
 pub mod SmallLaws
 pub mod SideLaws
-pub mod WipeLaws
 pub mod SmallAfter
 pub mod Found
 pub mod Questions

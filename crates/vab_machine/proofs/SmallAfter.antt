@@ -60,7 +60,7 @@ use Rattle.vab_machine.specs.Small.{IsSmallPlan, IsSmallPhase, IsSmall}
 use Rattle.vab_machine.proofs.Bounds.{images_small}
 use Rattle.vab_machine.proofs.SmallLaws.{entry_small, resize_small, store_plan_small, create_small}
 use Rattle.vab_machine.proofs.SmallLaws.{delete_small, write_small, begin_small}
-use Rattle.vab_machine.proofs.WipeLaws.{image_own}
+use Rattle.vab_super_image.proofs.OwnLaws.{image_own}
 
 -- the state after an effect is small
 abbrev Keeps : State → Effect State → Type 0

@@ -322,3 +322,11 @@ all_blocks slot t i blocks is le =
     is ∙ ap (λ (l : List Partition). blocks_of_parts (own_parts slot (map (part_of t) l)))
     (take_all i t.partitions le)
     ∙ ap blocks_of_parts (sym (own_all slot t))
+
+-- all of the slot's own stand before the end
+pub all_before : (slot : ℕ) (t : Table) (i : ℕ)
+    → length t.partitions ≤ i
+    → own_before slot t i ≡ own_parts slot (layout_of t).parts
+unfolding layout_of
+all_before slot t i done =
+    ap (λ (l : List Partition). own_parts slot (map (part_of t) l)) (take_all i t.partitions done)

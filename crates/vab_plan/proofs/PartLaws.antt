@@ -1,34 +1,26 @@
 -- Where the blocks of a slot's own partitions stand.
-use Rattle.std.proofs.Common.{◌≡◌, ℕ, zero, suc, ◌+◌, ◌-◌, ◌*◌, ◌/◌, ◌^◌, ◌≤◌, ◌<◌, inl, inr, Bool}
-use Rattle.std.proofs.Common.{true, false, List, [], ◌∷◌, ◌++◌, length, get_or, take, drop, leb}
-use Rattle.std.proofs.Common.{codes, refl, sym, ◌∙◌, ap, subst, arith, append-nil}
+use Rattle.std.proofs.Common.{◌≡◌, ℕ, zero, suc, ◌+◌, ◌-◌, ◌*◌, ◌/◌, ◌^◌, ◌<◌}
+use Rattle.std.proofs.Common.{true, false, List, [], ◌∷◌, ◌++◌, length, get_or, take, drop}
+use Rattle.std.proofs.Common.{refl, sym, ◌∙◌, ap, arith, append-nil}
 use Rattle.std.specs.Prelude.{map, All, sum_by}
-use Rattle.std.specs.List.{flat_map, filter, range_with_len}
-use Rattle.std.specs.Str.{bytes_eq}
-use Rattle.std.proofs.lemmas.Bool.{cases_Bool, leb-true, and_parts}
-use Rattle.std.proofs.lemmas.Slice.Eq.{bytes_eq-Decides}
-use Rattle.std.proofs.lemmas.List.{map-append, length-map, length-append, get_or-map, take_more}
+use Rattle.std.specs.List.{flat_map, range_with_len}
+use Rattle.std.proofs.lemmas.List.{map-append, length-append, take_more}
 use Rattle.std.proofs.lemmas.List.FromFn.{length-range_with_len}
 use Rattle.std.proofs.lemmas.List.Elements.{All-head, All-tail, All-take, All-drop, All-map}
 use Rattle.std.proofs.lemmas.List.Elements.{All-weaker, filter-append}
 use Rattle.std.proofs.lemmas.List.Sums.{sum_by-cons}
-use Rattle.vab_bytes.specs.Name.{IsName}
-use Rattle.vab_bytes.proofs.NameLaws.{name_fits}
 use Rattle.vab_names.specs.Names.{is_of_slot, base_of}
-use Rattle.vab_names.proofs.NameLaws.{joined_name, base_name, length-base_of}
 use Rattle.vab_tables.specs.declared.entries.Extent.{Extent}
 use Rattle.vab_tables.specs.declared.entries.BlockDevice.{BlockDevice}
 use Rattle.vab_tables.specs.declared.entries.Partition.{Partition}
 use Rattle.vab_tables.specs.declared.table.Table.{Table}
 use Rattle.vab_tables.specs.declared.entries.Group.{Group}
-use Rattle.vab_tables.specs.Rules.{is_shared, has_slot, IsDevice, IsExtent, IsGroup, KeepsRules}
+use Rattle.vab_tables.specs.Rules.{IsDevice, IsExtent, KeepsRules}
 use Rattle.vab_blocks.specs.Blocks.{blocks_of_extent, extents_of, first_sector_of}
 use Rattle.vab_blocks.specs.Blocks.{first_sector_of_devices}
 use Rattle.vab_linear.specs.Map.{run_of, blocks_of}
 use Rattle.vab_linear.proofs.MapLaws.{blocks_of-nil, blocks_of-cons}
-use Rattle.vab_layout.specs.declared.layout.Part.{Part as PartOfLayout}
-use Rattle.vab_layout.specs.Layout.{part_of, layout_of, first_device, blocks_of_partition}
-use Rattle.vab_layout.specs.Slots.{IsOwnPart, IsOwn}
+use Rattle.vab_layout.specs.Layout.{layout_of, first_device, blocks_of_partition}
 use Rattle.vab_layout.specs.Plain.{own_groups}
 use Rattle.vab_device.specs.Kept.{limits_of, sectors_of}
 use Rattle.vab_model.specs.declared.state.GroupLimit.{GroupLimit}
@@ -114,34 +106,6 @@ runs_sum d (e ∷ es) is =
       here.whole,
     )
 
--- ---- one of the partitions that pass a test
-
-all_first : {X : Type 0} (P : X → Type 0) (q : X → Bool) (x : X) (xs : List X)
-    → All P (filter q (x ∷ xs))
-    → q x ≡ true
-    → P x
-all_first P q x xs all h =
-    let both : All P (x ∷ filter q xs) = rw h at all in
-    All-head P x (filter q xs) both
-
-all_rest : {X : Type 0} (P : X → Type 0) (q : X → Bool) (x : X) (xs : List X)
-    → All P (filter q (x ∷ xs))
-    → All P (filter q xs)
-all_rest P q x xs all = elim (cases_Bool (q x)) [
-  | inl t ↦ let both : All P (x ∷ filter q xs) = rw t at all in All-tail P x (filter q xs) both
-  | inr f ↦ rw f at all
-]
-
-pub filtered_at : {X : Type 0} (P : X → Type 0) (q : X → Bool) (xs : List X) (i : ℕ) (d : X)
-    → All P (filter q xs)
-    → i < length xs
-    → q (get_or xs i d) ≡ true
-    → P (get_or xs i d)
-filtered_at P q [] i d all lt h = absurd (omega arith)
-filtered_at P q (x ∷ xs) zero d all lt h = all_first P q x xs all h
-filtered_at P q (x ∷ xs) (suc i) d all lt h =
-    filtered_at P q xs i d (all_rest P q x xs all) (omega arith) h
-
 -- ---- a partition of a table
 
 extents_rules : (t : Table) (keeps : KeepsRules t) (p : Partition)
@@ -185,51 +149,7 @@ pub layout_first : (t : Table) → (layout_of t).device.first_logical_sector ≡
 unfolding layout_of
 layout_first t = devices_first t.devices
 
--- a partition of the slot keeps the rules of its own
-pub own_at : (slot : ℕ) (t : Table) (i : ℕ) (d : Partition)
-    → IsOwn slot (layout_of t).parts
-    → i < length t.partitions
-    → is_of_slot slot (get_or t.partitions i d).name ≡ true
-    → IsOwnPart slot (part_of t (get_or t.partitions i d))
-unfolding layout_of
-own_at slot t i d own lt h =
-    let is : get_or (map (part_of t) t.partitions) i (part_of t d)
-    ≡ part_of t (get_or t.partitions i d) =
-    get_or-map (part_of t) t.partitions i d (part_of t d) lt in
-    subst (IsOwnPart slot) is
-    (filtered_at (IsOwnPart slot) (λ (p : PartOfLayout). is_of_slot slot p.name)
-    (map (part_of t) t.partitions) i (part_of t d) own.each
-    (omega (arith, lt, length-map t.partitions (part_of t)))
-    (ap (λ (p : PartOfLayout). is_of_slot slot p.name) is ∙ h))
-
 -- ---- groups
-
-shared_long : (name : List ℕ) → is_shared name ≡ true → 3 ≤ length name
-unfolding is_shared
-shared_long name h = elim (cases_Bool (bytes_eq name (codes "default"))) [
-  | inl t ↦ omega (arith, ap length ((bytes_eq-Decides name (codes "default")).0 t))
-  | inr f ↦
-      let rest : bytes_eq name (codes "cow") ≡ true = rw f at h in
-      omega (arith, ap length ((bytes_eq-Decides name (codes "cow")).0 rest))
-]
-
-slot_long : (name : List ℕ) → has_slot name ≡ true → 3 ≤ length name
-unfolding has_slot
-slot_long name h = leb-true 3 (length name)
-    (and_parts (leb 3 (length name)) _ (and_parts _ _ h).0).0
-
-pub group_long : (g : Group) → IsGroup g → 3 ≤ length g.name
-group_long g is = elim (cases_Bool (is_shared g.name)) [
-  | inl t ↦ shared_long g.name t
-  | inr f ↦ let rest : has_slot g.name ≡ true = rw f at is.named in slot_long g.name rest
-]
-
-pub base_is_name : (name : List ℕ) → IsName name → 3 ≤ length name → IsName (base_of name)
-base_is_name name is long =
-    subst IsName (append-nil (base_of name))
-    (joined_name (base_of name) [] (base_name name is) refl
-    (omega (arith, length-base_of name, long))
-    (omega (arith, length-base_of name, name_fits name is)))
 
 abbrev pub limit_of : Group → GroupLimit
 limit_of g = record { name = base_of g.name; limit = g.maximum_size }

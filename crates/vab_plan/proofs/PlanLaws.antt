@@ -30,10 +30,11 @@ use Rattle.vab_names.proofs.NameLaws.{length-base_of}
 use Rattle.vab_blocks.specs.Blocks.{first_sector_of}
 use Rattle.std.specs.Prelude.{IsTrue}
 use Rattle.std.proofs.lemmas.Bool.{leb-true, and_parts}
-use Rattle.std.proofs.lemmas.List.{map-append, take_more, take_all}
+use Rattle.std.proofs.lemmas.List.{map-append, take_more}
 use Rattle.std.proofs.lemmas.List.Elements.{filter-append}
 use Rattle.vab_device.specs.Phases.{planned_on}
-use Rattle.vab_plan.proofs.PartLaws.{own_at, layout_first}
+use Rattle.vab_layout.proofs.OwnNames.{own_at}
+use Rattle.vab_plan.proofs.PartLaws.{layout_first}
 use Rattle.vab_builder.proofs.Counting.{few_below}
 use Rattle.vab_names.proofs.NameCases.{store_is_store}
 use Rattle.vab_device.specs.Kept.{sectors_of}
@@ -236,13 +237,6 @@ own_rules slot t i p target lt at own =
     subst (λ (q : Partition). is_of_slot slot q.name ≡ true) at own in
     subst (λ (q : Partition). IsOwnPart slot (part_of t q)) (sym at)
     (own_at slot t i p target.own lt there)
-
-pub all_before : (slot : ℕ) (t : Table) (i : ℕ)
-    → length t.partitions ≤ i
-    → own_before slot t i ≡ own_parts slot (layout_of t).parts
-unfolding layout_of
-all_before slot t i done =
-    ap (λ (l : List Partition). own_parts slot (map (part_of t) l)) (take_all i t.partitions done)
 
 more_before : (slot : ℕ) (t : Table) (i : ℕ) (p : Partition)
     → i < length t.partitions

@@ -1,5 +1,6 @@
 -- A list of exceptions in which a block gets a new chunk, and its index.
-use Rattle.std.proofs.Common.{◌≡◌, ◌≢◌, ◌⊎◌, inl, inr, ⊎_elim, ℕ, zero, suc, ◌+◌, ◌≤◌, ◌<◌, List, []}
+use Rattle.std.proofs.Common.{◌≡◌, ◌≢◌, ◌⊎◌, inl, inr, ⊎_elim, ℕ, zero, suc, ◌+◌, ◌≤◌, ◌<◌}
+use Rattle.std.proofs.Common.{List, []}
 use Rattle.std.proofs.Common.{◌∷◌, ◌++◌, length, refl, sym, ◌∙◌, ap, subst, arith, true, false}
 use Rattle.std.proofs.Common.{◌==◌, ◌-◌, set}
 use Rattle.std.specs.Prelude.{Some}
@@ -102,7 +103,8 @@ pub place_held : (es : List Exception) (old : ℕ)
     → entry_place es old < length es
     → (exception_at es (entry_place es old)).old_chunk ≡ old
 place_held es old below =
-    ⊎_elim (λ held. held.old_is) (λ none. absurd (omega (arith, none.1, below))) (held_or_not es old)
+    ⊎_elim (λ held. held.old_is) (λ none. absurd (omega (arith, none.1, below)))
+    (held_or_not es old)
 
 pub place_lacks : (es : List Exception) (old : ℕ)
     → length es ≤ entry_place es old

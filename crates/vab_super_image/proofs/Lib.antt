@@ -1,2 +1,4 @@
 pub mod ReadLaws
 pub mod WipedLaws
+pub mod OwnLaws
+pub mod ShortNames

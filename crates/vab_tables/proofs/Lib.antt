@@ -7,3 +7,4 @@ pub mod SpellingLaws
 pub mod Loop
 pub mod NameSets
 pub mod NeedLaws
+pub mod ShortNames

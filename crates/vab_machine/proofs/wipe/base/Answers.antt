@@ -1,7 +1,7 @@
 use Rattle.std.proofs.Common.{◌≡◌, ◌∙◌, length, arith, ap, sym, subst}
 use Rattle.vab_bytes.specs.Name.{IsName}
 use Rattle.vab_names.specs.Names.{base_of}
-use Rattle.vab_machine.proofs.WipeLaws.{base_is_name}
+use Rattle.vab_layout.proofs.OwnNames.{base_is_name}
 use Rattle.vab_machine.proofs.wipe.base.Goals as goal
 
 pub base_of-requires : goal.base_of-requires

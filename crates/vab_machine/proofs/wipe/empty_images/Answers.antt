@@ -3,7 +3,8 @@ use Rattle.std.specs.Prelude.{map}
 use Rattle.vab_names.specs.Names.{is_of_slot}
 use Rattle.vab_tables.specs.declared.entries.Partition.{Partition}
 use Rattle.vab_model.specs.Wipe.{empty_image}
-use Rattle.vab_machine.proofs.WipeLaws.{own_long, all_before}
+use Rattle.vab_layout.proofs.OwnNames.{own_long}
+use Rattle.vab_partitions.proofs.OwnLaws.{all_before}
 use Rattle.vab_machine.proofs.wipe.empty_images.Goals as goal
 
 pub empty_image-requires-clause-long : goal.empty_image-requires-clause-long

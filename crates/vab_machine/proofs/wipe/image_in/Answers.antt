@@ -1,7 +1,7 @@
 use Rattle.std.proofs.Common.{◌∙◌, ℕ, ap}
 use Rattle.vab_super_image.specs.SuperImage.{super_image_of}
 use Rattle.vab_machine.proofs.SideLaws.{image_side}
-use Rattle.vab_machine.proofs.WipeLaws.{if_own_image}
+use Rattle.vab_super_image.proofs.OwnLaws.{if_own_image}
 use Rattle.vab_machine.proofs.wipe.image_in.Goals as goal
 
 pub returns-in-Ok-clause-exact : goal.returns-in-Ok-clause-exact

@@ -1,7 +1,7 @@
 use Rattle.std.proofs.Common.{◌≡◌, length, arith, ap, sym, subst, ◌∙◌}
 use Rattle.vab_bytes.specs.Name.{IsName}
 use Rattle.vab_names.specs.Names.{base_of}
-use Rattle.vab_plan.proofs.PartLaws.{group_long, base_is_name}
+use Rattle.vab_layout.proofs.OwnNames.{group_long, base_is_name}
 use Rattle.vab_plan.proofs.partitions.limit.Goals as goal
 
 pub base_of-requires : goal.base_of-requires

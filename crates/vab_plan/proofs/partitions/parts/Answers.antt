@@ -11,7 +11,8 @@ use Rattle.vab_layout.specs.Layout.{part_of, layout_of}
 use Rattle.vab_layout.specs.Slots.{own_parts, IsOwnPart, IsOwn}
 use Rattle.vab_partitions.specs.Own.{own_before}
 use Rattle.vab_device.specs.Kept.{part_on}
-use Rattle.vab_plan.proofs.PartLaws.{own_at, layout_first}
+use Rattle.vab_layout.proofs.OwnNames.{own_at}
+use Rattle.vab_plan.proofs.PartLaws.{layout_first}
 use Rattle.vab_plan.proofs.partitions.parts.Goals as goal
 
 own_rules : (slot : ℕ) (t : Table) (i : ℕ) (p : Partition)

@@ -8,7 +8,8 @@ use Rattle.vab_layout.specs.Layout.{layout_of, part_of}
 use Rattle.vab_device.specs.Phases.{planned_on}
 use Rattle.vab_plan.specs.Scans.{scans_of}
 use Rattle.vab_device.specs.Stores.{scanned_named}
-use Rattle.vab_plan.proofs.PlanLaws.{own_rules, all_before, plan_skip, plan_more, planned_same}
+use Rattle.vab_partitions.proofs.OwnLaws.{all_before}
+use Rattle.vab_plan.proofs.PlanLaws.{own_rules, plan_skip, plan_more, planned_same}
 use Rattle.vab_plan.proofs.PlanLaws.{at_any}
 use Rattle.vab_plan.proofs.planning.plan.Goals as goal
 use Rattle.vab_plan.proofs.planning.plan.Goals.{then-is_of_slot+in_ok-planned+in_ok-push}

@@ -6,7 +6,8 @@ use Rattle.vab_store.specs.Index.{place_at, IsRank}
 use Rattle.vab_store.specs.Setting.{entry_place}
 use Rattle.vab_store.proofs.SettingLaws.{LacksOld, rank_lacks, indexed_lacks_old, indexed_place}
 use Rattle.vab_store.proofs.SettingLaws.{place_behind}
-use Rattle.vab_store.proofs.view.StoreView.place_of.Goals.{else-rank-len-via-then-rank-len+else-index-old, else-rank-len-via-else-rank-len}
+use Rattle.vab_store.proofs.view.StoreView.place_of.Goals.{else-rank-len-via-then-rank-len+else-index-old}
+use Rattle.vab_store.proofs.view.StoreView.place_of.Goals.{else-rank-len-via-else-rank-len}
 use Rattle.vab_store.proofs.view.StoreView.place_of.Goals as goal
 
 pub returns-then-index-old : goal.returns-then-index-old
@@ -37,7 +38,8 @@ returns-else-rank-len c =
     λ below. elim c.else-rank-len.branch [
       | else-rank-len-via-then-rank-len+else-index-old w ↦ λ same.
           w.if-index-old.false
-          (ap (λ (p : Place). p.key) (get_or_read ps i w.index.result.now below w.index.ensures none)
+          (ap (λ (p : Place). p.key)
+          (get_or_read ps i w.index.result.now below w.index.ensures none)
           ∙ same)
       | else-rank-len-via-else-rank-len w ↦ λ same.
           omega (arith, w.if-rank-len.false, below, c.len.ensures)

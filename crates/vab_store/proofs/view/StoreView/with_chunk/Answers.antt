@@ -6,7 +6,8 @@ use Rattle.vab_store.specs.declared.index.Key.TheVariants.{Old}
 use Rattle.vab_store.specs.declared.index.Place.{Place}
 use Rattle.vab_store.specs.Index.{IsRank, IsIndexed}
 use Rattle.vab_store.specs.Setting.{entry_place}
-use Rattle.vab_store.proofs.SettingLaws.{LacksOld, exception_of, place_held, place_lacks, place_most}
+use Rattle.vab_store.proofs.SettingLaws.{LacksOld, exception_of, place_held, place_lacks}
+use Rattle.vab_store.proofs.SettingLaws.{place_most}
 use Rattle.vab_store.proofs.SettingLaws.{set_in_place, set_behind, indexed_set, indexed_more}
 use Rattle.vab_store.proofs.view.StoreView.with_chunk.Goals as goal
 
@@ -63,7 +64,8 @@ invariant_of-result-2 c =
     c.in_ok-index.ensures.items ∙ c.deref-2.ensures.value in
     let is : IsIndexed Old es ps =
     subst (λ (l : List Exception). IsIndexed Old l ps) c.self.view_is c.self.invariant in
-    let behind : length es ≤ at = omega (arith, c.if-at-len.false, c.len.ensures, ap length items) in
+    let behind : length es ≤ at =
+    omega (arith, c.if-at-len.false, c.len.ensures, ap length items) in
     let lacks : LacksOld es old = place_lacks es old (omega (arith, behind, at_is)) in
     let last : length es ≡ at = omega (arith, behind, at_is, place_most es old) in
     let ranked : IsRank ps old rank =
