@@ -11,6 +11,7 @@ use Rattle.vab_disk.proofs.Moments.{adds_wider}
 use Rattle.vab_gate.specs.declared.gate.DiskFault.{DiskFault}
 use Rattle.vab_geometry.specs.declared.geometry.Geometry.{Geometry}
 use Rattle.vab_tables.specs.declared.table.Table.{Table}
+use Rattle.vab_tables.specs.Spelling.{table_text}
 use Rattle.vab_tables.specs.Text.{IsTableText}
 use Rattle.vab_tables.specs.Reading.{table_of}
 use Rattle.vab_lpstore.specs.Layout.{backup_of, copy_sectors, primary_bytes, backup_bytes}
@@ -19,7 +20,7 @@ use Rattle.vab_lpstore.specs.Loading.{slot_table}
 use Rattle.vab_lpstore.specs.Storing.{IsOfTable, LeavesEitherTable, SameElsewhere}
 use Rattle.vab_lpstore.proofs.StoreLaws.{text_fits, begins_read, both_table, store_elsewhere}
 use Rattle.vab_layout.specs.declared.layout.Layout.{Layout}
-use Rattle.vab_layout.specs.Layout.{layout_of}
+use Rattle.vab_layout.specs.Layout.{layout_of, table_of as table_by}
 use Rattle.vab_layout.specs.Slots.{other_slot, twins_by, IsTargetBeside}
 use Rattle.vab_builder.specs.declared.edit.Edit.{Edit}
 use Rattle.vab_builder.specs.declared.fault.EditFault.{EditFault}
@@ -44,15 +45,16 @@ use Rattle.vab_device.proofs.ReadingLaws.{device_same, device_stands}
 use Rattle.vab_device.proofs.RepairLaws.{repair_same}
 use Rattle.vab_edit.specs.Carried.{carried}
 use Rattle.vab_edit.specs.Guards.{kept_from, kept_off}
-use Rattle.vab_edit.specs.Writes.{command_by, IsOfPhase, IsOfEdit}
+use Rattle.vab_edit.specs.Writes.{command_by, edit_by, guard_by, plan_at, IsOfEdit}
 use Rattle.vab_edit.specs.Prepared.{IsPrepared, Refuses, with_target, carried_over}
 use Rattle.vab_edit.proofs.CopiesLaws.{ends_within}
 use Rattle.vab_edit.proofs.DeviceLaws.{kept_update, new_lies, next_kept}
-use Rattle.vab_edit.proofs.EffectLaws.{not_installing, effect_edited, effect_kept}
+use Rattle.vab_edit.proofs.EffectLaws.{not_installing, effect_edited, effect_kept, kept_so}
+use Rattle.vab_edit.proofs.EffectLaws.{gives_edited}
 use Rattle.vab_edit.proofs.GateLaws.{other_below, carried_plan, mounted_edited, device_edited}
 use Rattle.vab_edit.proofs.GateLaws.{represents_edited}
 use Rattle.vab_edit.proofs.InstallingLaws.{read_at}
-use Rattle.vab_edit.proofs.NextLaws.{device_at, plan_at, target_kept}
+use Rattle.vab_edit.proofs.NextLaws.{device_at, target_kept}
 use Rattle.vab_edit.proofs.PreparedLaws.{plan_differs}
 use Rattle.vab_edit.proofs.StandsLaws.{StandsUpdate, stands_update, planned_at}
 
@@ -131,20 +133,24 @@ StoresTable g geometry slot old new text = g.is_modelled
     (LeavesEitherTable (g.told old) geometry slot (text_sectors (length text)) (g.seen old) t v)
 
 module _ {D : Type 0} (g : Ghosts D) (d : Device) (edit : Edit) (staged : Option (List ℕ)) where
+  -- what the edit may write
+  abbrev Writes : ℕ → List ℕ → Type 0
+  Writes = IsOfEdit d (guard_by edit) (edit_by edit)
+
   -- ---- a refusal
 
   pub refused_by : (r : Refusal) (old : D)
       → IsDevice d (g.size old)
       → (g.is_modelled → Represents d (g.size old) (g.seen old))
       → Refuses d edit r
-      → Does g d staged (command_by edit) (IsOfEdit d) old old (Ok (d, replies.Refused r))
+      → Does g d staged (command_by edit) Writes old old (Ok (d, replies.Refused r))
   refused_by r old kept is (inl none) =
-      does_nothing g d staged (command_by edit) (IsOfEdit d) false (replies.Refused r) old old
+      does_nothing g d staged (command_by edit) Writes false (replies.Refused r) old old
       kept is
       (λ t. not_installing d (g.seen old) staged edit none.0 ∙ ap refuses (sym none.1))
       (reads_none g old) refl
   refused_by r old kept is (inr (inl back)) =
-      does_nothing g d staged (command_by edit) (IsOfEdit d) false (replies.Refused r) old old
+      does_nothing g d staged (command_by edit) Writes false (replies.Refused r) old old
       kept is
       (λ t. kept_back d (g.size old) kept (g.seen old) staged edit r back)
       (reads_none g old) refl
@@ -160,7 +166,7 @@ module _ {D : Type 0} (g : Ghosts D) (d : Device) (edit : Edit) (staged : Option
       in
       ⊎_elim
       (λ wants.
-      does_nothing g d staged (command_by edit) (IsOfEdit d) true (replies.Refused r) old old
+      does_nothing g d staged (command_by edit) Writes true (replies.Refused r) old old
       kept is
       (λ t.
       refused_to
@@ -171,7 +177,7 @@ module _ {D : Type 0} (g : Ghosts D) (d : Device) (edit : Edit) (staged : Option
       ∙ ap refuses (sym wants.0))
       (reads_none g old) refl)
       (λ said.
-      does_nothing g d staged (command_by edit) (IsOfEdit d) false (replies.Refused r) old old
+      does_nothing g d staged (command_by edit) Writes false (replies.Refused r) old old
       kept is
       (λ t.
       edited_is t
@@ -235,14 +241,30 @@ module _ {D : Type 0} (g : Ghosts D) (d : Device) (edit : Edit) (staged : Option
         (plan_at d.mark.apart (g.seen old) p.tables.old_plan))
         p.given.gives
 
+    -- the text is that of the table whose extents are the maximal runs
+    spelled : text ≡ table_text (table_by (layout_of u))
+    spelled = p.given.text_is ∙ ap table_text p.given.is_edited.runs
+
     writes : (s : ℕ) (b : List ℕ)
         → IsOfTable d.geometry (other_slot d.mark.slot) text s b
-        → IsOfEdit d s b
-    writes s b of_text =
-        subst
-        (λ (x : Option (List Part)). IsOfPhase x d.geometry (other_slot d.mark.slot) s b)
-        (sym p.tables.is_planned)
-        (text, u, p.given.is_text, p.given.fits, of_text)
+        → Writes s b
+    writes s b of_text = record {
+      source = p.s;
+      target = p.t;
+      tables = p.tables;
+      free = λ image.
+          kept_so d p.tables.old_plan None edit image p.tables.is_planned p.free;
+      layout = layout_of u;
+      gives = gives_edited edit d.mark.apart d.geometry.max d.mark.slot p.s p.t ∙ p.given.gives;
+      stands =
+          subst (λ (x : List ℕ × Table). IsTableText d.geometry.max x.0 x.1)
+          (λ i. (spelled i, p.given.is_edited.runs i))
+          p.given.is_text;
+      short = subst (λ (l : List ℕ). length l ≤ d.geometry.max) spelled p.given.fits;
+      writes =
+          subst (λ (l : List ℕ). IsOfTable d.geometry (other_slot d.mark.slot) l s b) spelled
+          of_text;
+    }
 
     -- an image with the new table
     module _
@@ -380,7 +402,7 @@ module _ {D : Type 0} (g : Ghosts D) (d : Device) (edit : Edit) (staged : Option
     -- the disk failed
     pub fails_edit : (fault : DiskFault)
         → DiskFailed (g.faults old) (g.faults new)
-        → Does g d staged (command_by edit) (IsOfEdit d) old new (Err fault)
+        → Does g d staged (command_by edit) Writes old new (Err fault)
     fails_edit fault rose = record {
       refused = false;
       kept = tt;
@@ -392,7 +414,7 @@ module _ {D : Type 0} (g : Ghosts D) (d : Device) (edit : Edit) (staged : Option
       quiet = touches.quiet;
       still = λ t none. absurd (step_follows gives none);
       touches = λ t.
-          touches_wider g (IsOfEdit d) (IsOfTable d.geometry (other_slot d.mark.slot) text) old new
+          touches_wider g Writes (IsOfTable d.geometry (other_slot d.mark.slot) text) old new
           touches writes;
       time = steps;
       faults = record { steady = tt; cause = rose };
@@ -408,7 +430,7 @@ module _ {D : Type 0} (g : Ghosts D) (d : Device) (edit : Edit) (staged : Option
     pub does_edit : (g.is_modelled → BothHold d.geometry (other_slot d.mark.slot) text (g.seen new))
         → (g.is_modelled → IsAtRest g new)
         → g.faults new ≡ g.faults old
-        → Does g d staged (command_by edit) (IsOfEdit d) old new
+        → Does g d staged (command_by edit) Writes old new
         (Ok (with_target d (other_slot d.mark.slot) u (carried_over d.plan plan), replies.Done))
     does_edit held settled counts = record {
       refused = false;
@@ -434,7 +456,7 @@ module _ {D : Type 0} (g : Ghosts D) (d : Device) (edit : Edit) (staged : Option
       quiet = touches.quiet;
       still = λ t none. absurd (step_follows gives none);
       touches = λ t.
-          touches_wider g (IsOfEdit d) (IsOfTable d.geometry (other_slot d.mark.slot) text) old new
+          touches_wider g Writes (IsOfTable d.geometry (other_slot d.mark.slot) text) old new
           touches writes;
       time = steps;
       faults = record { steady = counts; cause = tt };

@@ -35,31 +35,28 @@ use Rattle.vab_device.specs.declared.device.PartImage.{PartImage}
 use Rattle.vab_device.specs.declared.device.PartImage.TheVariants.{Kept, Declared, Written}
 use Rattle.vab_device.specs.Mounted.{planned_on}
 use Rattle.vab_device.specs.Updates.{EditOf, layout_at, edited_effect, edit_effect, table_effect}
-use Rattle.vab_device.specs.Updates.{effect_on, Guard, no_guard, is_settled_in, settled_guard}
-use Rattle.vab_device.specs.Updates.{store_guard, unless_kept}
+use Rattle.vab_device.specs.Updates.{effect_on, Guard, is_settled_in, settled_guard}
+use Rattle.vab_device.specs.Updates.{unless_kept}
 use Rattle.vab_edit.specs.Carried.{planned_named}
 use Rattle.vab_edit.specs.Guards.{is_written, is_settled, unless_settled, kept_from, kept_off}
-use Rattle.vab_edit.specs.Writes.{command_by}
+use Rattle.vab_edit.specs.Writes.{command_by, edit_by, guard_by, plan_at, layout_by}
 use Rattle.vab_edit.specs.Prepared.{HasTables}
 use Rattle.vab_edit.proofs.DeviceLaws.{slot_cases}
-use Rattle.vab_edit.proofs.NextLaws.{plan_at}
 use Rattle.vab_edit.proofs.PlainLaws.{changed_plain}
 use Rattle.vab_edit.proofs.StandsLaws.{planned_phase}
 
--- what an edit gives of two tables' layouts
-abbrev edit_of : Edit → EditOf
-edit_of edit apart target s t = changed_beside target (twins_by apart s.parts) s t edit
-
--- what keeps it from a plan
-abbrev guard_of : Edit → Guard
-guard_of (Create name bytes) = no_guard
-guard_of (Resize name bytes) = settled_guard (nat_le bytes (2 ^ 40)) name.now
-guard_of (Delete name) = settled_guard true name.now
-guard_of (AddStore name bytes) = store_guard
+-- an edit gives what the builder gives
+edit_is : (edit : Edit) (apart : Bool) (target : ℕ) (s t : Layout)
+    → edit_by edit apart target s t
+    ≡ changed_beside target (twins_by apart s.parts) s t edit
+edit_is (Create name bytes) apart target s t = refl
+edit_is (Resize name bytes) apart target s t = refl
+edit_is (Delete name) apart target s t = refl
+edit_is (AddStore name bytes) apart target s t = refl
 
 by_edit : (m : Mounted) (staged : Option (List ℕ)) (edit : Edit)
     → effect_on m staged (command_by edit)
-    ≡ edit_effect m (guard_of edit) (edit_of edit) m.state.phase
+    ≡ edit_effect m (guard_by edit) (edit_by edit) m.state.phase
 by_edit m staged (Create name bytes) = refl
 by_edit m staged (Resize name bytes) = refl
 by_edit m staged (Delete name) = refl
@@ -93,9 +90,9 @@ pub not_installing : (d : Device) (image : Image) (staged : Option (List ℕ)) (
     → effect_on (mounted_on d image) staged (command_by edit) ≡ refuses NotInstalling
 not_installing d image staged edit none =
     by_edit (mounted_on d image) staged edit
-    ∙ ap (edit_effect (mounted_on d image) (guard_of edit) (edit_of edit))
+    ∙ ap (edit_effect (mounted_on d image) (guard_by edit) (edit_by edit))
     (phase_of d image None none)
-    ∙ unplanned_refuses (mounted_on d image) (guard_of edit) (edit_of edit) d.mark.phase
+    ∙ unplanned_refuses (mounted_on d image) (guard_by edit) (edit_by edit) d.mark.phase
     d.mark.slot (count_at d.a + count_at d.b)
 
 -- ---- what keeps an edit from the plan
@@ -130,7 +127,7 @@ settled_guards apart passes source name image plan =
     (settled_as apart image (base_of name) plan plan)
 
 guards : (apart : Bool) (source : ℕ) (edit : Edit) (image : Image) (plan : List Part)
-    → guard_of edit source (plan_at apart image plan)
+    → guard_by edit source (plan_at apart image plan)
     ≡ kept_from apart (other_slot source) plan edit
 guards apart source (Create name bytes) image plan = refl
 guards apart source (Resize name bytes) image plan =
@@ -140,10 +137,10 @@ guards apart source (Delete name) image plan =
 guards apart source (AddStore name bytes) image plan = refl
 
 -- of a device
-kept_so : (d : Device) (plan : List Part) (x : Option Refusal) (edit : Edit) (image : Image)
+pub kept_so : (d : Device) (plan : List Part) (x : Option Refusal) (edit : Edit) (image : Image)
     → d.plan ≡ Some plan
     → kept_off d.mark.apart (other_slot d.mark.slot) d.plan edit ≡ x
-    → guard_of edit d.mark.slot (plan_at d.mark.apart image plan) ≡ x
+    → guard_by edit d.mark.slot (plan_at d.mark.apart image plan) ≡ x
 kept_so d plan x edit image planned is =
     guards d.mark.apart d.mark.slot edit image plan
     ∙ ap (λ (o : Option (List Part)). kept_off d.mark.apart (other_slot d.mark.slot) o edit)
@@ -159,10 +156,10 @@ pub effect_kept : (d : Device) (plan : List Part) (image : Image) (staged : Opti
 effect_kept d plan image staged edit r planned is =
     let m : Mounted = mounted_on d image in
     by_edit m staged edit
-    ∙ ap (edit_effect m (guard_of edit) (edit_of edit)) (phase_of d image (Some plan) planned)
+    ∙ ap (edit_effect m (guard_by edit) (edit_by edit)) (phase_of d image (Some plan) planned)
     ∙ ap (λ (x : Option Refusal).
     unless_kept x
-    (edited_effect m d.mark.slot (plan_at d.mark.apart image plan) (edit_of edit)
+    (edited_effect m d.mark.slot (plan_at d.mark.apart image plan) (edit_by edit)
     (layout_at m.places d.mark.slot) (layout_at m.places (other_slot d.mark.slot))))
     (kept_so d plan (Some r) edit image planned is)
 
@@ -210,13 +207,17 @@ module _
   ]
 
   plain_same : (edit : Edit)
-      → edit_of edit d.mark.apart (other_slot d.mark.slot) (plain d.mark.slot (layout_of s))
+      → edit_by edit d.mark.apart (other_slot d.mark.slot) (plain d.mark.slot (layout_of s))
       (layout_of t)
-      ≡ edit_of edit d.mark.apart (other_slot d.mark.slot) (layout_of s) (layout_of t)
+      ≡ changed_beside (other_slot d.mark.slot) (twins_by d.mark.apart (layout_of s).parts)
+      (layout_of s) (layout_of t) edit
   plain_same edit =
       let twice : other_slot (other_slot d.mark.slot) ≡ d.mark.slot = omega (arith, kept.slot) in
-      ap (λ (n : ℕ). edit_of edit d.mark.apart (other_slot d.mark.slot) (plain n (layout_of s))
-      (layout_of t)) (sym twice)
+      edit_is edit d.mark.apart (other_slot d.mark.slot) (plain d.mark.slot (layout_of s))
+      (layout_of t)
+      ∙ ap (λ (n : ℕ). changed_beside (other_slot d.mark.slot)
+      (twins_by d.mark.apart (plain n (layout_of s)).parts) (plain n (layout_of s)) (layout_of t)
+      edit) (sym twice)
       ∙ changed_plain d.mark.apart (other_slot d.mark.slot) (layout_of s) (layout_of t) edit
 
   -- An edit of a device with an update gives what the builder gives of its tables.
@@ -231,13 +232,21 @@ module _
       let m : Mounted = mounted_on d image in
       let plan : Plan = plan_at d.mark.apart image has.old_plan in
       by_edit m staged edit
-      ∙ ap (edit_effect m (guard_of edit) (edit_of edit))
+      ∙ ap (edit_effect m (guard_by edit) (edit_by edit))
       (phase_of d image (Some has.old_plan) has.is_planned)
       ∙ ap (λ (x : Option Refusal).
       unless_kept x
-      (edited_effect m d.mark.slot plan (edit_of edit)
+      (edited_effect m d.mark.slot plan (edit_by edit)
       (layout_at m.places d.mark.slot) (layout_at m.places (other_slot d.mark.slot))))
       (kept_so d has.old_plan None edit image has.is_planned free)
-      ∙ (λ i. edited_effect m d.mark.slot plan (edit_of edit) (placed_source i) (placed_target i))
+      ∙ (λ i. edited_effect m d.mark.slot plan (edit_by edit) (placed_source i) (placed_target i))
       ∙ ap (λ (x : Result Layout EditFault).
       table_effect m d.mark.slot plan (if_fitting d.geometry.max x)) (plain_same edit)
+
+-- What an edit gives of two tables is what the builder gives of them.
+pub gives_edited : (edit : Edit) (apart : Bool) (max source : ℕ) (s t : Table)
+    → layout_by (edit_by edit) apart max source s t
+    ≡ edited_beside (other_slot source) (twins_by apart (layout_of s).parts) (layout_of s)
+    (layout_of t) max edit
+gives_edited edit apart max source s t =
+    ap (if_fitting max) (edit_is edit apart (other_slot source) (layout_of s) (layout_of t))

@@ -50,7 +50,8 @@ use Rattle.vab_edit.proofs.InstallingLaws.{read_at, two_tables, device_reads}
 use Rattle.vab_plan.proofs.NoStoreLaws.{no_store_kept}
 use Rattle.vab_edit.proofs.NamedLaws.{first_is, first_own, own_named, HasImage, LeavesImages}
 use Rattle.vab_edit.proofs.NamedLaws.{has_still}
-use Rattle.vab_edit.proofs.NextLaws.{device_at, plan_at, mounted_next}
+use Rattle.vab_edit.specs.Writes.{plan_at}
+use Rattle.vab_edit.proofs.NextLaws.{device_at, mounted_next}
 use Rattle.vab_edit.proofs.NoStoresLaws.{edited_no_stores}
 use Rattle.vab_edit.proofs.PlanLaws.{image_updated, settled_there, plan_carried, plan_means}
 use Rattle.vab_edit.proofs.SparedLaws.{IsSpared, spared, settled_spared}

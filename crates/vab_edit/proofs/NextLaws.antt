@@ -1,6 +1,6 @@
 -- The device with another table and plan of the target.
 use Rattle.std.proofs.Common.{◌≡◌, ℕ, zero, suc, ◌<◌, List, ap, arith}
-use Rattle.std.specs.Prelude.{Bool, Option, Some, map}
+use Rattle.std.specs.Prelude.{Option, Some, map}
 use Rattle.vab_disk.specs.Disk.{Image}
 use Rattle.vab_bootctl.specs.declared.slots.Control.{Control}
 use Rattle.vab_marks.specs.declared.mark.UpdateMark.{UpdateMark}
@@ -9,7 +9,6 @@ use Rattle.vab_tables.specs.declared.table.Table.{Table}
 use Rattle.vab_geometry.specs.declared.geometry.Geometry.{Geometry}
 use Rattle.vab_layout.specs.Layout.{layout_of}
 use Rattle.vab_layout.specs.Slots.{other_slot}
-use Rattle.vab_model.specs.declared.state.Plan.{Plan}
 use Rattle.vab_model.specs.declared.state.Phase.TheVariants.{Installing}
 use Rattle.vab_device.specs.declared.device.Part.{Part}
 use Rattle.vab_device.specs.declared.device.Device.{Device}
@@ -19,6 +18,7 @@ use Rattle.vab_device.specs.Reading.{kept}
 use Rattle.vab_device.specs.Stores.{Scanned}
 use Rattle.vab_device.specs.Updates.{plan_by, installing_with}
 use Rattle.vab_edit.specs.Prepared.{with_target}
+use Rattle.vab_edit.specs.Writes.{plan_at}
 use Rattle.vab_edit.proofs.InstallingLaws.{read_at}
 
 -- a device with an update, whose boot control is kept whole
@@ -55,10 +55,6 @@ target_kept base (suc zero) statuses seen g s t u scanned c plan below is =
     }) is
 target_kept base (suc (suc n)) statuses seen g s t u scanned c plan below is =
     absurd (omega (arith, below))
-
--- the plan of these partitions, whose target stands apart or not
-abbrev pub plan_at : (apart : Bool) → Image → List Part → Plan
-plan_at apart image plan = record { apart = apart; entries = map (entry_on image) plan }
 
 -- what it means, where the images stay
 pub mounted_next : (base : UpdateMark) (k : ℕ) (statuses : List (Option PartStatus))

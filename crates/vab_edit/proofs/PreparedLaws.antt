@@ -3,7 +3,6 @@ use Rattle.std.proofs.Common.{◌≡◌, ◌≢◌, ◌∙◌, inl, inr, ℕ, Li
 use Rattle.std.proofs.Common.{sym, ap, true}
 use Rattle.std.proofs.lemmas.Bool.{cases_Bool}
 use Rattle.std.specs.Prelude.{AllPairs, nat_le}
-use Rattle.std.proofs.lemmas.List.Elements.{All-contains, Contains-append_right}
 use Rattle.std.proofs.lemmas.List.Kept.{AllPairs-filter}
 use Rattle.vab_names.specs.Names.{base_of, is_of_slot, suffix_of}
 use Rattle.vab_names.proofs.NameLaws.{of_slot}
@@ -13,15 +12,15 @@ use Rattle.vab_tables.specs.Spelling.{table_size_of, as_minor_2}
 use Rattle.vab_layout.specs.declared.layout.Part.{Part as PartOfLayout}
 use Rattle.vab_layout.specs.declared.layout.Layout.{Layout}
 use Rattle.vab_layout.specs.Layout.{layout_of, table_of}
-use Rattle.vab_layout.specs.Slots.{own_parts, store_parts, IsDistinct, IsTargetBeside}
+use Rattle.vab_layout.specs.Slots.{own_parts, IsTargetBeside}
 use Rattle.vab_layout.proofs.LayoutLaws.{layout_keeps}
 use Rattle.vab_builder.specs.declared.edit.Edit.{Edit}
 use Rattle.vab_builder.specs.declared.fault.EditFault.{EditFault}
 use Rattle.vab_builder.specs.declared.fault.EditFault.TheVariants as faults
 use Rattle.vab_builder.specs.Edits.{changed_beside, edited_beside, fitting, if_fitting}
 use Rattle.vab_builder.specs.Gives.{IsTableOf, GivesTable}
-use Rattle.vab_builder.proofs.Counting.{pairs_map, pairs_weaker, pieces_once}
-use Rattle.vab_blocks.proofs.Contained.{all_from, of_filter}
+use Rattle.vab_builder.proofs.Counting.{pairs_map, pairs_weaker}
+use Rattle.vab_blocks.proofs.Contained.{of_filter}
 use Rattle.vab_builder.proofs.Verdicts.{unless_ok}
 use Rattle.vab_device.specs.declared.device.Part.{Part}
 use Rattle.vab_device.specs.Phases.{planned_on, plan_of}
@@ -62,6 +61,17 @@ gives_layout slot max twins s t u edit is layout =
     (faults.TableFull (table_size_of (table_of (layout_of u))) max) (Ok (layout_of u)) is.0
     (sym fits ∙ is.1) in
     is.1 ∙ sym taken.1
+
+-- its extents are the maximal runs of its layout
+pub own_runs : (u : Table) (said : Result Layout EditFault)
+    → IsTableOf u said
+    → said ≡ Ok (layout_of u)
+    → u ≡ table_of (layout_of u)
+own_runs u said is gives =
+    let both : (let r : Result Layout EditFault = Ok is.0 in r ≡ Ok (layout_of u)) =
+    sym is.1 ∙ gives in
+    let same : is.0 ≡ layout_of u = cc in
+    is.2 ∙ ap table_of same
 
 -- ---- refusals
 

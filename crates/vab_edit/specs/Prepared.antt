@@ -3,10 +3,10 @@ use Rattle.std.specs.Prelude.{◌≡◌, ◌⊎◌, ℕ, ◌<◌, ◌≤◌, ◌
 use Rattle.std.specs.Prelude.{Ok, Err, ◌==◌, if◌then◌else◌, Bool, true, Result}
 use Rattle.vab_tables.specs.declared.table.Table.{Table}
 use Rattle.vab_tables.specs.Rules.{KeepsRules}
-use Rattle.vab_tables.specs.Spelling.{table_size_of}
+use Rattle.vab_tables.specs.Spelling.{table_size_of, table_text}
 use Rattle.vab_tables.specs.Text.{IsTableText}
 use Rattle.vab_layout.specs.declared.layout.Layout.{Layout}
-use Rattle.vab_layout.specs.Layout.{layout_of}
+use Rattle.vab_layout.specs.Layout.{layout_of, table_of}
 use Rattle.vab_layout.specs.Slots.{other_slot, twins_by, IsOwn, IsTargetBeside, groups_of_slot}
 use Rattle.vab_builder.specs.declared.edit.Edit.{Edit}
 use Rattle.vab_builder.specs.declared.fault.EditFault.{EditFault}
@@ -38,8 +38,8 @@ pub record MayBeEdited (apart : Bool) (max source : ℕ) (s t : Table) : Type 0 
       (layout_of t).parts
   pub device : s.devices ≡ t.devices
 
--- The table that an edit gives beside the source's: its layout, its rules, and what it has of the
--- table before it.
+-- The table that an edit gives beside the source's: its layout, whose maximal runs are its extents,
+-- its rules, and what it has of the table before it.
 pub record IsEdited (apart : Bool) (max source : ℕ) (edit : Edit) (s t u : Table) : Type 0 where
   pub rules : KeepsRules u
   pub size : table_size_of u ≤ max
@@ -49,6 +49,7 @@ pub record IsEdited (apart : Bool) (max source : ℕ) (edit : Edit) (s t u : Tab
       (layout_of t)
       edit
       ≡ Ok (layout_of u)
+  pub runs : u ≡ table_of (layout_of u)
   pub others : KeepsOthers (edited_name edit) (layout_of t) (layout_of u)
   pub target : IsTargetBeside (other_slot source)
       (twins_by apart (layout_of s).parts)
@@ -74,6 +75,7 @@ pub record IsGiven
       max
       edit
       ≡ Ok (layout_of u)
+  pub text_is : text ≡ table_text u
   pub is_text : IsTableText max text u
   pub fits : length text ≤ max
   pub is_plan : plan ≡ plan_of (other_slot source) (layout_of u) []

@@ -4,7 +4,7 @@ ghost use Rattle.std.specs.Prelude.{ℕ, List, Option};
 ghost use Rattle.vab_device.specs.Kept.{IsDevice};
 ghost use Rattle.vab_device.specs.Reading.{Represents};
 ghost use Rattle.vab_device.specs.Does.{Does};
-ghost use Rattle.vab_edit.specs.Writes.{IsOfEdit, command_by};
+ghost use Rattle.vab_edit.specs.Writes.{IsOfEdit, command_by, edit_by, guard_by};
 
 use crate::carry::with_table;
 use crate::prepared::prepare;
@@ -19,11 +19,12 @@ use vab_model::Reply;
 /// Edits the table of an update's target: a partition more, another size, one less, or an exception
 /// store. Sizes are in bytes. Where the device that is kept is that of the disk, the reply and the
 /// device after it are those of the table of effects; where nothing was pending, each outcome since
-/// is the device before the edit or the one after it. It touches the copies of the target's table
-/// alone, and a refusal touches nothing. `NotInstalling` comes where no update is installed, and
-/// there alone. Where the target stands apart, a store is refused with `InPlace` before all else,
-/// and another size or the end of a partition that is written with `Written`. Want of memory comes
-/// in place of `Done` and of `TableFull` alone. The error comes where the disk has failed.
+/// is the device before the edit or the one after it. It writes the copies of the target's table
+/// alone, with the one text of the table that the edit gives, and a refusal writes nothing.
+/// `NotInstalling` comes where no update is installed, and there alone. Where the target stands
+/// apart, a store is refused with `InPlace` before all else, and another size or the end of a
+/// partition that is written with `Written`. Want of memory comes in place of `Done` and of
+/// `TableFull` alone. The error comes where the disk has failed.
 pub fn edit<D: Disk>(
     alloc: Global,
     d: &mut D,
@@ -33,7 +34,8 @@ pub fn edit<D: Disk>(
     requires kept { IsDevice device (D.size d.old) }
     requires represents { D.is_modelled → Represents device (D.size d.old) (D.seen d.old) }
     ensures { (staged : Option (List ℕ))
-        → Does D.Disk device staged (command_by edit.now) (IsOfEdit device) d.old d.new result }
+        → Does D.Disk device staged (command_by edit.now)
+        (IsOfEdit device (guard_by edit.now) (edit_by edit.now)) d.old d.new result }
 {
     match prepare(alloc, &device, edit) {
         Err(refusal) => Ok((device, Reply::Refused(refusal))),

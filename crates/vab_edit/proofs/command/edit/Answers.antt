@@ -5,7 +5,7 @@ use Rattle.vab_lpstore.specs.Storing.{IsOfTable}
 use Rattle.vab_model.specs.declared.command.Reply.TheVariants as replies
 use Rattle.vab_device.specs.declared.device.Device.{Device}
 use Rattle.vab_device.specs.Does.{Does}
-use Rattle.vab_edit.specs.Writes.{command_by, IsOfEdit}
+use Rattle.vab_edit.specs.Writes.{command_by, edit_by, guard_by, IsOfEdit}
 use Rattle.vab_edit.proofs.CommandLaws.{copies_within, prepared_differs, StoresTable, refused_by}
 use Rattle.vab_edit.proofs.CommandLaws.{fails_edit, does_edit}
 use Rattle.vab_edit.proofs.command.edit.Goals as goal
@@ -45,7 +45,8 @@ returns-in-Ok-store_table g c = λ staged.
     let target : ℕ = 1 - c.args.device.mark.slot in
     subst
     (λ (x : Device).
-    Does g.D.Disk c.args.device staged (command_by c.args.edit.now) (IsOfEdit c.args.device)
+    Does g.D.Disk c.args.device staged (command_by c.args.edit.now)
+    (IsOfEdit c.args.device (guard_by c.args.edit.now) (edit_by c.args.edit.now))
     c.args.d.now c.store_table.new.d (Ok (x, replies.Done)))
     (sym c.with_table.ensures)
     (does_edit g.D.Disk c.args.device c.args.edit.now staged c.in-Ok.next.table
