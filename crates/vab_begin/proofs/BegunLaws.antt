@@ -29,7 +29,7 @@ use Rattle.vab_builder.specs.Edits.{fitting}
 use Rattle.vab_install.specs.Control.{cleared_of, no_info}
 use Rattle.vab_model.specs.declared.command.Reply.TheVariants as replies
 use Rattle.vab_model.specs.declared.command.Refusal.TheVariants as refusals
-use Rattle.vab_model.specs.Effects.{Effect, does, refuses, wanting, unless_refused}
+use Rattle.vab_model.specs.Effects.{does, refuses, wanting, unless_refused}
 use Rattle.vab_device.specs.declared.device.Part.{Part}
 use Rattle.vab_device.specs.declared.device.Device.{Device}
 use Rattle.vab_device.specs.Idle.{control_read_of}

@@ -5,7 +5,6 @@ use Rattle.std.proofs.Common.{subst, arith, true, false, eq-eqb}
 use Rattle.std.specs.Prelude.{◌==◌, if◌then◌else◌, Bool, Option, None, is_some}
 use Rattle.std.proofs.lemmas.Bool.{cases_Bool, eqb-true}
 use Rattle.vab_marks.specs.declared.mark.MarkPhase.{MarkPhase}
-use Rattle.vab_marks.specs.declared.mark.MarkPhase.TheVariants as marks
 use Rattle.vab_marks.specs.declared.mark.UpdateMark.{UpdateMark}
 use Rattle.vab_marks.specs.Mark.{MayStandApart}
 use Rattle.vab_bootctl.specs.declared.slots.Control.{Control}
@@ -14,7 +13,6 @@ use Rattle.vab_geometry.specs.declared.geometry.Geometry.{Geometry}
 use Rattle.vab_tables.specs.declared.table.Table.{Table}
 use Rattle.vab_layout.specs.Slots.{other_slot}
 use Rattle.vab_device.specs.declared.device.Part.{Part}
-use Rattle.vab_device.specs.declared.device.PhaseKind.TheVariants as kinds
 use Rattle.vab_device.specs.declared.device.Device.{Device}
 use Rattle.vab_device.specs.Kept.{IsDevice, IsKeptTable, ArePresent, IsPhase, IsUpdate}
 use Rattle.vab_device.specs.Kept.{is_installing, has_both, has_slot, reads_both, table_of_slot}

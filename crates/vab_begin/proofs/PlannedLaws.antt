@@ -1,7 +1,7 @@
 -- The partitions that are planned of a target's table keep the rules of a plan.
-use Rattle.std.proofs.Common.{◌≡◌, ℕ, ◌+◌, ◌-◌, ◌*◌, ◌≤◌, true}
-use Rattle.std.proofs.Common.{false, List, [], ◌∷◌, ◌++◌, get_or, Option, Some, None, refl}
-use Rattle.std.proofs.Common.{◌∙◌, subst, arith}
+use Rattle.std.proofs.Common.{◌≡◌, ℕ, ◌≤◌, true}
+use Rattle.std.proofs.Common.{false, List, [], get_or, Option, Some, None, refl}
+use Rattle.std.proofs.Common.{subst, arith}
 use Rattle.std.specs.Prelude.{Bool, Contains, option_map}
 use Rattle.std.proofs.lemmas.List.{length-map, get_or-map}
 use Rattle.std.proofs.lemmas.List.Elements.{All-map, Contains-get_or}

@@ -1,10 +1,11 @@
 //! An update that begins.
 
-ghost use Rattle.std.specs.Prelude.{◌≡◌, ◌<◌, ℕ, List, Option, Some};
+ghost use Rattle.std.specs.Prelude.{◌≡◌, ◌<◌, ℕ, List, Option, Some, IfOk};
 ghost use Rattle.vab_marks.specs.declared.mark.MarkPhase.TheVariants as marks;
 ghost use Rattle.vab_marks.specs.Mark.{begun};
-ghost use Rattle.vab_install.specs.Control.{cleared_of};
+ghost use Rattle.vab_install.specs.Control.{cleared_of, IsWritten};
 ghost use Rattle.vab_layout.specs.Slots.{other_slot};
+ghost use Rattle.vab_model.specs.declared.command.Reply.TheVariants as replies;
 ghost use Rattle.vab_device.specs.Does.{Does};
 ghost use Rattle.vab_device.specs.Kept.{IsDevice};
 ghost use Rattle.vab_device.specs.Reading.{Represents};
@@ -51,9 +52,14 @@ fn begin_to<D: Disk>(
     requires represents { D.is_modelled → Represents device (D.size d.old) (D.seen d.old) }
     requires idle { device.mark.phase ≡ marks.Idle }
     requires target { IsTargetFor apart device target }
-    ensures { (staged : Option (List ℕ))
+    ensures does { (staged : Option (List ℕ))
         → Does D.Disk device staged (begin_of apart)
         (IsOfBegun D.is_modelled apart device (D.seen d.old 4)) d.old d.new result }
+    // Boot control then says nothing of the target, and all other bits of its sector stay.
+    ensures control { D.is_modelled → IfOk result
+        (λ r. r.1 ≡ replies.Done
+        → IsWritten (cleared_of device.control (other_slot device.mark.slot))
+        (D.seen d.old 4) (D.seen d.new 4)) }
 {
     let slot = device.mark.slot;
     let text = target.text.as_slice();
@@ -83,9 +89,14 @@ pub fn begin<D: Disk>(
 ) -> Result<(Device, Reply), DiskFault>
     requires kept { IsDevice device (D.size d.old) }
     requires represents { D.is_modelled → Represents device (D.size d.old) (D.seen d.old) }
-    ensures { (staged : Option (List ℕ))
+    ensures does { (staged : Option (List ℕ))
         → Does D.Disk device staged (begin_of apart)
         (IsOfBegun D.is_modelled apart device (D.seen d.old 4)) d.old d.new result }
+    // Boot control then says nothing of the target, and all other bits of its sector stay.
+    ensures control { D.is_modelled → IfOk result
+        (λ r. r.1 ≡ replies.Done
+        → IsWritten (cleared_of device.control (other_slot device.mark.slot))
+        (D.seen d.old 4) (D.seen d.new 4)) }
 {
     match device.phase() {
         PhaseKind::Installing(_) => Ok((device, Reply::Refused(Refusal::NotIdle))),

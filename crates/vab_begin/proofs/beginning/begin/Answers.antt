@@ -16,8 +16,8 @@ use Rattle.vab_begin.proofs.BegunLaws.{begin_refused, begin_staged, begin_mergin
 use Rattle.vab_begin.proofs.BegunLaws.{is_memory, refused_is}
 use Rattle.vab_begin.proofs.beginning.begin.Goals as goal
 
-pub returns-in-Installing : goal.returns-in-Installing
-returns-in-Installing g c = λ staged.
+pub returns-in-Installing-clause-does : goal.returns-in-Installing-clause-does
+returns-in-Installing-clause-does g c = λ staged.
     let d = c.args.device in
     let old = c.args.d.now in
     let size = g.D.Disk.size old in
@@ -30,8 +30,8 @@ returns-in-Installing g c = λ staged.
     (λ t. begin_refused c.args.apart d (g.D.Disk.seen old) staged plan.0 plan.1)
     (reads_none g.D.Disk old) refl
 
-pub returns-in-Staged : goal.returns-in-Staged
-returns-in-Staged g c = λ staged.
+pub returns-in-Staged-clause-does : goal.returns-in-Staged-clause-does
+returns-in-Staged-clause-does g c = λ staged.
     let d = c.args.device in
     let old = c.args.d.now in
     let size = g.D.Disk.size old in
@@ -44,8 +44,8 @@ returns-in-Staged g c = λ staged.
     (unplanned_of d size marks.Staged c.requires.kept refl phase.0) phase.0)
     (reads_none g.D.Disk old) refl
 
-pub returns-in-Merging : goal.returns-in-Merging
-returns-in-Merging g c = λ staged.
+pub returns-in-Merging-clause-does : goal.returns-in-Merging-clause-does
+returns-in-Merging-clause-does g c = λ staged.
     let d = c.args.device in
     let old = c.args.d.now in
     let size = g.D.Disk.size old in
@@ -58,8 +58,8 @@ returns-in-Merging g c = λ staged.
     (unplanned_of d size marks.Merging c.requires.kept refl phase) phase)
     (reads_none g.D.Disk old) refl
 
-pub returns-in-Err : goal.returns-in-Err
-returns-in-Err g c = λ staged.
+pub returns-in-Err-clause-does : goal.returns-in-Err-clause-does
+returns-in-Err-clause-does g c = λ staged.
     let d = c.args.device in
     let old = c.args.d.now in
     let size = g.D.Disk.size old in

@@ -5,12 +5,12 @@ use Rattle.vab_disk.specs.Calls.{Touches}
 use Rattle.vab_marks.specs.declared.mark.UpdateMark.{UpdateMark}
 use Rattle.vab_marks.specs.Mark.{mark_of, mark_spelling, begun}
 use Rattle.vab_layout.specs.Slots.{other_slot}
-use Rattle.vab_install.specs.Control.{cleared_of}
+use Rattle.vab_install.specs.Control.{cleared_of, IsWritten}
 use Rattle.vab_model.specs.declared.command.Reply.TheVariants as replies
 use Rattle.vab_device.specs.declared.device.Device.{Device}
 use Rattle.vab_device.specs.declared.device.Part.{Part}
 use Rattle.vab_device.specs.Does.{Does}
-use Rattle.vab_disk.proofs.CallLaws.{failed_then}
+use Rattle.vab_disk.proofs.CallLaws.{failed_then, wrote_there}
 use Rattle.vab_device.proofs.DoesLaws.{dead_means, fails_dead, fails_gate, does_gate}
 use Rattle.vab_begin.specs.Kept.{with_control, with_update}
 use Rattle.vab_begin.specs.Writes.{begin_of, IsOfPlaces, IsOfBegun}
@@ -25,8 +25,8 @@ prepare_begin-requires-clause-table_on_disk g c =
     copies_on_disk c.args.device.geometry (other_slot c.args.device.mark.slot) _
     c.requires.kept.geometry (omega arith) c.requires.kept.enough c.requires.kept.copies_on
 
-pub returns-in-Err : goal.returns-in-Err
-returns-in-Err g c = λ staged.
+pub returns-in-Err-clause-does : goal.returns-in-Err-clause-does
+returns-in-Err-clause-does g c = λ staged.
     let d = c.args.device in
     let apart = c.args.apart in
     let x = c.args.target in
@@ -51,8 +51,8 @@ returns-in-Err g c = λ staged.
     c.requires.target)
     c.in-Err.ensures.faults.cause
 
-pub returns-in-Err-put_mark : goal.returns-in-Err-put_mark
-returns-in-Err-put_mark g c = λ staged.
+pub returns-in-Err-put_mark-clause-does : goal.returns-in-Err-put_mark-clause-does
+returns-in-Err-put_mark-clause-does g c = λ staged.
     let d = c.args.device in
     let apart = c.args.apart in
     let x = c.args.target in
@@ -100,8 +100,8 @@ returns-in-Err-put_mark g c = λ staged.
     (mark_in apart d x c.requires.target text c.as_slice-text.ensures told bytes c.requires.idle)
     _ (failed_then _ _ _ c.in-Ok.ensures.faults.steady c.in-Err-put_mark.ensures.faults.cause)
 
-pub returns-in-Ok-put_mark : goal.returns-in-Ok-put_mark
-returns-in-Ok-put_mark g c = λ staged.
+pub returns-in-Ok-put_mark-clause-does : goal.returns-in-Ok-put_mark-clause-does
+returns-in-Ok-put_mark-clause-does g c = λ staged.
     let d = c.args.device in
     let apart = c.args.apart in
     let x = c.args.target in
@@ -164,3 +164,16 @@ returns-in-Ok-put_mark g c = λ staged.
     c.begun-mark.ensures c.in-Ok-put_mark.ensures.written)
     c.in-Ok-put_mark.ensures.settled
     (c.in-Ok-put_mark.ensures.faults.steady ∙ c.in-Ok.ensures.faults.steady))
+
+pub returns-in-Ok-put_mark-clause-control : goal.returns-in-Ok-put_mark-clause-control
+returns-in-Ok-put_mark-clause-control g c = λ t done.
+    let d = c.args.device in
+    let old = c.args.d.now in
+    let mid = c.prepare_begin.new.d in
+    let new = c.put_mark.new.d in
+    let same : g.D.Disk.seen new 4 ≡ g.D.Disk.seen mid 4 =
+    wrote_there (g.D.Disk.seen mid) (g.D.Disk.seen new) 2048 (mark_spelling c.begun-mark.result)
+    (c.in-Ok-put_mark.ensures.written t) 4 (λ e. omega (arith, e)) in
+    subst
+    (IsWritten (cleared_of d.control (other_slot d.mark.slot)) (g.D.Disk.seen old 4))
+    (sym same) (c.in-Ok.ensures.control t)

@@ -91,13 +91,13 @@ pub returns-in-Begin : goal.returns-in-Begin
 returns-in-Begin g c =
     of g.D.Disk c.args.device (option_map (λ s. s.now) c.args.staged) c.args.d.now
     c.args.command.now _ _ _ c.in-Begin.is
-    (c.begin.ensures (option_map (λ s. s.now) c.args.staged))
+    (c.begin.ensures.does (option_map (λ s. s.now) c.args.staged))
 
 pub returns-in-Factory : goal.returns-in-Factory
 returns-in-Factory g c =
     of g.D.Disk c.args.device (option_map (λ s. s.now) c.args.staged) c.args.d.now
     c.args.command.now _ _ _ c.in-Factory.is
-    (c.begin-in-Factory.ensures (option_map (λ s. s.now) c.args.staged))
+    (c.begin-in-Factory.ensures.does (option_map (λ s. s.now) c.args.staged))
 
 pub returns-in-Create : goal.returns-in-Create
 returns-in-Create g c =
