@@ -2,7 +2,7 @@
 use Rattle.std.proofs.Common.{◌≡◌, ◌∙◌, ◌⊎◌, inl, inr, ⊎_elim, ℕ, ◌<◌, List, [], ◌∷◌, Ok, refl}
 use Rattle.std.proofs.Common.{sym, ap, false}
 use Rattle.std.proofs.Common.{Result, subst, arith}
-use Rattle.std.specs.Prelude.{◌-◌, ◌*◌, ◌≤◌, Bool, true, Option, Some, None, is_some, ◌==◌}
+use Rattle.std.specs.Prelude.{◌-◌, ◌*◌, ◌≤◌, Bool, true, Option, is_some, ◌==◌}
 use Rattle.std.specs.Prelude.{if◌then◌else◌}
 use Rattle.vab_disk.specs.declared.disk.Disk.{Ghosts}
 use Rattle.std.proofs.lemmas.Bool.{cases_Bool}
@@ -27,8 +27,9 @@ use Rattle.vab_device.specs.Does.{KeepsSource}
 use Rattle.vab_model.specs.Kinds.{changes_source}
 use Rattle.vab_device.specs.Kept.{IsDevice, copies_end, has_both, has_slot, parts_at}
 use Rattle.vab_device.specs.Reading.{Represents, IsOfImages}
+use Rattle.vab_device.specs.Updates.{EditOf, Guard}
 use Rattle.vab_begin.specs.Writes.{IsOfBegun}
-use Rattle.vab_edit.specs.Writes.{IsOfPhase}
+use Rattle.vab_edit.specs.Writes.{IsOfEdit}
 use Rattle.vab_manager.specs.Controls.{IsControl}
 use Rattle.vab_commands.specs.Controls.{Step, controls_by, IsOfControls}
 use Rattle.vab_commands.specs.Writes.{IsOfCommand}
@@ -43,12 +44,11 @@ use Rattle.vab_commands.proofs.FreeLaws.{image_is_free}
 
 -- ---- one command
 
-edit_writes : (plan : Option (List Part)) (g : Geometry) (target s : ℕ) (b : List ℕ)
-    → IsOfPhase plan g target s b
-    → IsTextOf g target s b
-edit_writes None g target s b is = absurd is
-edit_writes (Some plan) g target s b is =
-    record { text = is.0; fits = is.3; is = is.4 }
+-- an edit writes a text that fits
+edit_writes : (d : Device) (guard : Guard) (edit : EditOf) (s : ℕ) (b : List ℕ)
+    → IsOfEdit d guard edit s b
+    → IsTextOf d.geometry (other_slot d.mark.slot) s b
+edit_writes d guard edit s b w = record { text = _; fits = w.short; is = w.writes }
 
 module _ {D : Type 0}
     (g : Ghosts D)
@@ -137,14 +137,10 @@ module _ {D : Type 0}
   one_writes (Digest name) not w = absurd w
   one_writes Begin not w = one_begun false w
   one_writes Factory not w = one_begun true w
-  one_writes (Create name size) not w =
-      of_text (edit_writes d.plan d.geometry (other_slot d.mark.slot) s b w)
-  one_writes (Resize name size) not w =
-      of_text (edit_writes d.plan d.geometry (other_slot d.mark.slot) s b w)
-  one_writes (Delete name) not w =
-      of_text (edit_writes d.plan d.geometry (other_slot d.mark.slot) s b w)
-  one_writes (Snapshot name size) not w =
-      of_text (edit_writes d.plan d.geometry (other_slot d.mark.slot) s b w)
+  one_writes (Create name size) not w = of_text (edit_writes d _ _ s b w)
+  one_writes (Resize name size) not w = of_text (edit_writes d _ _ s b w)
+  one_writes (Delete name) not w = of_text (edit_writes d _ _ s b w)
+  one_writes (Snapshot name size) not w = of_text (edit_writes d _ _ s b w)
   one_writes (Flash name chunk) not w = ⊎_elim
       (λ image.
       inr (inr (inr (inr

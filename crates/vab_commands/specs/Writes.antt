@@ -1,9 +1,11 @@
 -- The sectors that a command may write.
-use Rattle.std.specs.Prelude.{ℕ, true, false, List, Option}
+use Rattle.std.specs.Prelude.{ℕ, ◌^◌, nat_le, true, false, List, Option}
 use Rattle.vab_model.specs.Commands.{Command, SetActive, Boot, Mark, Print, Digest, Begin, Create}
 use Rattle.vab_model.specs.Commands.{Resize, Delete, Snapshot, Flash, Finish, Cancel, BeginMerge}
 use Rattle.vab_model.specs.Commands.{Merge, Factory, UpdateSuper}
 use Rattle.vab_device.specs.declared.device.Device.{Device}
+use Rattle.vab_device.specs.Updates.{create_edit, resize_edit, delete_edit, snapshot_edit}
+use Rattle.vab_device.specs.Updates.{no_guard, settled_guard, store_guard}
 use Rattle.vab_manager.specs.Controls as slots
 use Rattle.vab_begin.specs.Writes.{IsOfBegun, IsOfCancelled}
 use Rattle.vab_edit.specs.Writes.{IsOfEdit}
@@ -14,11 +16,11 @@ use Rattle.vab_merging.specs.Writes.{IsOfMerge}
 use Rattle.vab_wipe.specs.Writes.{IsOfWipe}
 
 -- What a command may write on a device, where boot control's sector has these bytes: a command on
--- slots boot control, by the boot rules; a begin its target's table and the mark, an edit that
--- table, a flash the partition's store, or its own blocks, and a status, a finish boot control
--- without the target and the mark, a cancel and the begin of a merge the mark, and a merge blocks
--- of the partitions, entries of their stores, and the mark at its end, and a wipe the table of the
--- mark's slot. The others write nothing.
+-- slots boot control, by the boot rules; a begin its target's table and the mark, an edit the
+-- target's table that it gives, a flash the partition's store, or its own blocks, and a status, a
+-- finish boot control without the target and the mark, a cancel and the begin of a merge the mark,
+-- and a merge blocks of the partitions, entries of their stores, and the mark at its end, and a
+-- wipe the table of the mark's slot. The others write nothing.
 abbrev pub IsOfCommand : Type 0 → Device → List ℕ → Command → ℕ → List ℕ → Type 0
 IsOfCommand told d old (SetActive slot) s b = slots.IsOfCommand d old (SetActive slot) s b
 IsOfCommand told d old Boot s b = slots.IsOfCommand d old Boot s b
@@ -27,10 +29,14 @@ IsOfCommand told d old (Print name) s b = ⊥
 IsOfCommand told d old (Digest name) s b = ⊥
 IsOfCommand told d old Begin s b = IsOfBegun told false d old s b
 IsOfCommand told d old Factory s b = IsOfBegun told true d old s b
-IsOfCommand told d old (Create name size) s b = IsOfEdit d s b
-IsOfCommand told d old (Resize name size) s b = IsOfEdit d s b
-IsOfCommand told d old (Delete name) s b = IsOfEdit d s b
-IsOfCommand told d old (Snapshot name size) s b = IsOfEdit d s b
+IsOfCommand told d old (Create name size) s b =
+    IsOfEdit d no_guard (create_edit name size) s b
+IsOfCommand told d old (Resize name size) s b =
+    IsOfEdit d (settled_guard (nat_le size (2 ^ 40)) name) (resize_edit name size) s b
+IsOfCommand told d old (Delete name) s b =
+    IsOfEdit d (settled_guard true name) (delete_edit name) s b
+IsOfCommand told d old (Snapshot name size) s b =
+    IsOfEdit d store_guard (snapshot_edit name size) s b
 IsOfCommand told d old (Flash name chunk) s b = IsOfFlash d name s b
 IsOfCommand told d old Finish s b = IsOfFinished told d old s b
 IsOfCommand told d old Cancel s b = IsOfCancelled d s b
