@@ -1,0 +1,6 @@
+mod DataLaws
+mod EnteredLaws
+mod KeptLaws
+mod PutLaws
+mod StepLaws
+mod WrittenLaws

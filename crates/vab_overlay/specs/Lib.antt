@@ -1,0 +1,4 @@
+pub mod Data
+pub mod Entry
+pub mod Faults
+pub mod Overlaid
