@@ -16,7 +16,8 @@ use Rattle.vab_device.specs.Kept.{IsDevice}
 use Rattle.vab_device.specs.Phases.{plan_of}
 use Rattle.vab_edit.specs.Carried.{carried}
 use Rattle.vab_edit.specs.Guards.{kept_off}
-use Rattle.vab_edit.specs.Prepared.{IsEdited, HasTables, with_target}
+use Rattle.vab_edit.specs.Prepared.{IsEdited, with_target}
+use Rattle.vab_edit.specs.Tables.{HasTables}
 use Rattle.vab_edit.proofs.GateLaws.{device_of_layout}
 use Rattle.vab_edit.proofs.KeptLaws.{fresh_planned, all_carried}
 use Rattle.vab_edit.proofs.NoStoresLaws.{edited_no_stores}

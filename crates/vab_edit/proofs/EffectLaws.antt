@@ -40,7 +40,7 @@ use Rattle.vab_device.specs.Updates.{unless_kept}
 use Rattle.vab_edit.specs.Carried.{planned_named}
 use Rattle.vab_edit.specs.Guards.{is_written, is_settled, unless_settled, kept_from, kept_off}
 use Rattle.vab_edit.specs.Writes.{command_by, edit_by, guard_by, plan_at, layout_by}
-use Rattle.vab_edit.specs.Prepared.{HasTables}
+use Rattle.vab_edit.specs.Tables.{HasTables}
 use Rattle.vab_edit.proofs.DeviceLaws.{slot_cases}
 use Rattle.vab_edit.proofs.PlainLaws.{changed_plain}
 use Rattle.vab_edit.proofs.StandsLaws.{planned_phase}

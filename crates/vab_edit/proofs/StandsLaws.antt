@@ -20,7 +20,7 @@ use Rattle.vab_device.specs.Kept.{table_of_slot, is_installing, IsPhase, IsDevic
 use Rattle.vab_device.specs.Phases.{plan_of}
 use Rattle.vab_device.specs.Reading.{Reads, Represents, AgreeCopies}
 use Rattle.vab_device.specs.Stores.{Scanned}
-use Rattle.vab_edit.specs.Prepared.{HasTables}
+use Rattle.vab_edit.specs.Tables.{HasTables}
 use Rattle.vab_edit.proofs.InstallingLaws.{read_at, stands_installing}
 use Rattle.vab_edit.proofs.NextLaws.{device_at}
 use Rattle.vab_marks.specs.declared.version.MarkVersion.TheVariants.{Two}

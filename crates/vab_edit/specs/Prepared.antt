@@ -16,11 +16,11 @@ use Rattle.vab_model.specs.declared.command.Refusal.{Refusal}
 use Rattle.vab_model.specs.declared.command.Refusal.TheVariants.{NoMemory, NotInstalling}
 use Rattle.vab_device.specs.declared.device.Part.{Part}
 use Rattle.vab_device.specs.declared.device.Device.{Device}
-use Rattle.vab_device.specs.Kept.{table_of_slot}
 use Rattle.vab_device.specs.Phases.{plan_of}
 use Rattle.vab_device.specs.Updates.{refusal_of, wants_for}
 use Rattle.vab_edit.specs.Carried.{carried}
 use Rattle.vab_edit.specs.Guards.{kept_off}
+use Rattle.vab_edit.specs.Tables.{HasTables}
 
 -- The tables of an update that an edit is tried on, whose target stands apart or not: the most
 -- bytes of a table's text, the slot of the source, its table and the target's.
@@ -79,13 +79,6 @@ pub record IsGiven
   pub is_text : IsTableText max text u
   pub fits : length text ≤ max
   pub is_plan : plan ≡ plan_of (other_slot source) (layout_of u) []
-
--- an update is installed, and these are the tables of its source and of its target
-pub record HasTables (d : Device) (s t : Table) : Type 0 where
-  pub source : table_of_slot d d.mark.slot ≡ Some s
-  pub target : table_of_slot d (other_slot d.mark.slot) ≡ Some t
-  pub old_plan : List Part
-  pub is_planned : d.plan ≡ Some old_plan
 
 -- what an edit of a device's tables gives, from whose plan nothing keeps it
 pub record IsPrepared (d : Device) (edit : Edit) (u : Table) (text : List ℕ) (plan : List Part)

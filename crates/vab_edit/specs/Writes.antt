@@ -20,7 +20,7 @@ use Rattle.vab_device.specs.declared.device.Device.{Device}
 use Rattle.vab_device.specs.Mounted.{entry_on}
 use Rattle.vab_device.specs.Updates.{EditOf, create_edit, resize_edit, delete_edit, snapshot_edit}
 use Rattle.vab_device.specs.Updates.{Guard, no_guard, settled_guard, store_guard}
-use Rattle.vab_edit.specs.Prepared.{HasTables}
+use Rattle.vab_edit.specs.Tables.{HasTables}
 
 -- the command that asks for an edit
 abbrev pub command_by : Edit → Command

@@ -6,7 +6,8 @@ ghost use Rattle.vab_layout.specs.Slots.{other_slot, twins_by};
 ghost use Rattle.vab_builder.specs.Edits.{edited_beside};
 ghost use Rattle.vab_device.specs.Kept.{IsDevice};
 ghost use Rattle.vab_device.specs.Updates.{refusal_of};
-ghost use Rattle.vab_edit.specs.Prepared.{HasTables, IsGiven, IsPrepared, MayBeEdited};
+ghost use Rattle.vab_edit.specs.Prepared.{IsGiven, IsPrepared, MayBeEdited};
+ghost use Rattle.vab_edit.specs.Tables.{HasTables};
 ghost use Rattle.vab_edit.specs.Prepared.{Refuses, RefusesBy};
 
 use crate::guard::kept_off;

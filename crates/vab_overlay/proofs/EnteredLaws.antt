@@ -125,7 +125,8 @@ module _ (es : List Exception) (block chunk : ℕ) where
   pub at_place : (j : ℕ)
       → j ≡ entry_place es block
       → exception_at (set_entry es block chunk) j ≡ exception_of block chunk
-  at_place j here = ap (exception_at (set_entry es block chunk)) here ∙ set_entry-here es block chunk
+  at_place j here =
+      ap (exception_at (set_entry es block chunk)) here ∙ set_entry-here es block chunk
 
   pub entered_fits : (bound : ℕ) (store : List ℕ)
       → Fits One bound store es
@@ -161,7 +162,8 @@ module _ (es : List Exception) (block chunk : ℕ) where
               subst (Lies One (length store) bound) (sym (at_place j here)) lies
           | inr other ↦
               let there : j < length es = was_there j below other in
-              subst (Lies One (length store) bound) (sym (set_entry-there es block chunk j other there))
+              subst (Lies One (length store) bound)
+              (sym (set_entry-there es block chunk j other there))
               (fits.lie j there)
         ];
         once = λ i j order below. elim (cases_eq i p) [

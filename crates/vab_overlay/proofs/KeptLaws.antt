@@ -63,7 +63,9 @@ module _ (store : List ℕ) (bound : ℕ) (es : List Exception) (old new : Image
       (λ b unseen. unseen.named j below)
 
   -- an entry of those pages
-  pub entry_same : (t : ℕ) → t / 256 ≤ length es / 256 → slot_at One store new t ≡ slot_at One store old t
+  pub entry_same : (t : ℕ)
+      → t / 256 ≤ length es / 256
+      → slot_at One store new t ≡ slot_at One store old t
   entry_same t within = slot_same One store old new t (page_same (t / 256) within)
 
   -- a block that is read through an exception

@@ -44,7 +44,8 @@ pub next_fills : (count place block : ℕ)
     → next_page count place ≡ Some block
     → Fills count place block
 next_fills count place block is =
-    let both = some_if (place == count && place % 256 == 255) (page_block One (place / 256 + 1)) block is in
+    let both =
+    some_if (place == count && place % 256 == 255) (page_block One (place / 256 + 1)) block is in
     let tests = and_parts (place == count) (place % 256 == 255) both.0 in
     let new_one : place ≡ count = eqb-true place count tests.0 in
     record {
@@ -259,7 +260,8 @@ module _ {D : Type 0} (g : Ghosts D) (store : List ℕ) (es : List Exception) (b
               ⊎_elim
               (λ same.
               inl (subst (IsKept store bound es (g.seen old)) (sym same)
-              (kept store bound es (g.seen old) (g.seen mid) ready.apart ready.overlaid ready.same)))
+              (kept store bound es (g.seen old) (g.seen mid) ready.apart ready.overlaid
+              ready.same)))
               (λ put.
               inr (
                 set_entry es block chunk,

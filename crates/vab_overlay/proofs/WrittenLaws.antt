@@ -1,5 +1,6 @@
 -- A store whose block has its data and then its entry.
-use Rattle.std.proofs.Common.{◌≡◌, ◌≢◌, inl, inr, ⊎_elim, ℕ, ◌+◌, ◌-◌, ◌*◌, ◌/◌, ◌%◌, ◌≤◌, ◌<◌, List}
+use Rattle.std.proofs.Common.{◌≡◌, ◌≢◌, inl, inr, ⊎_elim, ℕ, ◌+◌, ◌-◌, ◌*◌, ◌/◌, ◌%◌, ◌≤◌, ◌<◌}
+use Rattle.std.proofs.Common.{List}
 use Rattle.std.proofs.Common.{length, take, replicate, refl, sym, ◌∙◌, ap, subst, arith, true}
 use Rattle.std.proofs.Common.{◌==◌, ◌&&◌, cond}
 use Rattle.std.specs.Prelude.{slice_index, Option, Some, None}

@@ -3,7 +3,8 @@ use Rattle.vab_tables.specs.declared.table.Table.{Table}
 use Rattle.vab_layout.specs.Slots.{other_slot}
 use Rattle.vab_device.specs.declared.device.Device.{Device}
 use Rattle.vab_device.specs.Kept.{IsDevice}
-use Rattle.vab_edit.specs.Prepared.{HasTables, MayBeEdited}
+use Rattle.vab_edit.specs.Prepared.{MayBeEdited}
+use Rattle.vab_edit.specs.Tables.{HasTables}
 use Rattle.vab_edit.proofs.DeviceLaws.{kept_table, kept_update}
 use Rattle.vab_edit.proofs.prepared.prepare.Goals as goal
 
