@@ -15,5 +15,6 @@ pub mod FlashLaws
 pub mod GatedLaws
 pub mod InPlaceLaws
 pub mod FreeLaws
+pub mod TakenLaws
 pub mod SectorLaws
 pub mod BareLaws

@@ -1,8 +1,9 @@
 -- What the flash of a partition may write.
 use Rattle.std.specs.Prelude.{◌≡◌, ◌⊎◌, ℕ, Bool, true, false, List, [], Option, Some, None}
+use Rattle.vab_disk.specs.Disk.{Image}
 use Rattle.vab_marks.specs.declared.status.StatusImage.{StatusImage}
 use Rattle.vab_marks.specs.Status.{status_spelling}
-use Rattle.vab_statuses.specs.Statuses.{IsOfStatuses}
+use Rattle.vab_statuses.specs.Statuses.{IsOfStatuses, IsFirstFree}
 use Rattle.vab_device.specs.declared.device.Part.{Part}
 use Rattle.vab_device.specs.declared.device.Device.{Device}
 use Rattle.vab_device.specs.Reading.{IsOfBlocks}
@@ -31,3 +32,7 @@ pub record IsOfFlash (d : Device) (name : List ℕ) (s : ℕ) (bytes : List ℕ)
   pub has : HasPlace d name place
   pub writes : IsOfBlocks (blocks_for d.mark.apart (planned_at d place)) s
       ⊎ IsStatusOf name s bytes
+
+-- Of the sectors of the statuses the first that is all zeros, and any other sector.
+abbrev pub IsFreeOrOther : Image → ℕ → Type 0
+IsFreeOrOther image s = IsOfStatuses s → IsFirstFree image (Some s)

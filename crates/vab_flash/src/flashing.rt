@@ -19,7 +19,7 @@ ghost use Rattle.vab_device.specs.Reading.{Represents};
 ghost use Rattle.vab_flash.specs.Chosen.{base_of_place, differing_at};
 ghost use Rattle.vab_flash.specs.Chosen.{store_at, store_long, IsChosen, IsListed};
 ghost use Rattle.vab_flash.specs.Place.{plan_or, planned_at};
-ghost use Rattle.vab_flash.specs.Touched.{IsOfFlash};
+ghost use Rattle.vab_flash.specs.Touched.{IsOfFlash, IsFreeOrOther};
 
 use crate::chosen::{Destination, choose, planned_at};
 use crate::found::{find_differing, store_blocks};
@@ -99,8 +99,10 @@ fn store_image<D: Disk>(
         → olds.now ≡ differing_at chunk device place (D.seen d.old) bytes.now }
     requires there { IsOfStatuses free }
     requires free { D.is_modelled → IsFirstFree (D.seen d.old) (Some free) }
-    ensures { Does D.Disk device (Some bytes.now) (Flash name.now chunk)
+    ensures does { Does D.Disk device (Some bytes.now) (Flash name.now chunk)
         (IsOfFlash device name.now) d.old d.new result }
+    ensures free { D.is_modelled
+        → Touches D.Disk (InSectors (IsFreeOrOther (D.seen d.old))) d.old d.new }
 {
     match write_place(alloc, d, &device, place, bytes, olds, chunk) {
         Err(PartFault::NoMemory) => Ok((device, Reply::Refused(Refusal::NoMemory))),
@@ -138,8 +140,10 @@ fn flash_place<D: Disk>(
     requires listed { IsListed chunk device place olds.now }
     requires exact { D.is_modelled
         → olds.now ≡ differing_at chunk device place (D.seen d.old) bytes.now }
-    ensures { Does D.Disk device (Some bytes.now) (Flash name.now chunk)
+    ensures does { Does D.Disk device (Some bytes.now) (Flash name.now chunk)
         (IsOfFlash device name.now) d.old d.new result }
+    ensures free { D.is_modelled
+        → Touches D.Disk (InSectors (IsFreeOrOther (D.seen d.old))) d.old d.new }
 {
     match first_free(d) {
         Ok(Some(free)) => store_image(alloc, d, device, name, place, bytes, olds, chunk, free),
@@ -171,8 +175,10 @@ fn flash_found<D: Disk>(
     requires lists { IfSome found.chunks
         (λ v. AscendsBelow (chunks_for chunk (length (planned_at device place).map))
         (store_long device place) found.count v.items) }
-    ensures { Does D.Disk device (Some bytes.now) (Flash name.now chunk)
+    ensures does { Does D.Disk device (Some bytes.now) (Flash name.now chunk)
         (IsOfFlash device name.now) d.old d.new result }
+    ensures free { D.is_modelled
+        → Touches D.Disk (InSectors (IsFreeOrOther (D.seen d.old))) d.old d.new }
 {
     let Differing { count, chunks } = found;
     let needed = need_at(count, chunk);
@@ -199,8 +205,10 @@ fn flash_in_store<D: Disk>(
     requires kept { IsDevice device (D.size d.old) }
     requires represents { D.is_modelled → Represents device (D.size d.old) (D.seen d.old) }
     requires chosen { IsChosen device name.now (Some bytes.now) place Destination.Store bytes.now }
-    ensures { Does D.Disk device (Some bytes.now) (Flash name.now chunk)
+    ensures does { Does D.Disk device (Some bytes.now) (Flash name.now chunk)
         (IsOfFlash device name.now) d.old d.new result }
+    ensures free { D.is_modelled
+        → Touches D.Disk (InSectors (IsFreeOrOther (D.seen d.old))) d.old d.new }
 {
     match find_differing(alloc, d, &device, place, bytes, chunk) {
         Ok(found) => flash_found(alloc, d, device, name, place, bytes, found, chunk),
@@ -225,8 +233,11 @@ pub fn flash<D: Disk>(
 ) -> Result<(Device, Reply), DiskFault>
     requires kept { IsDevice device (D.size d.old) }
     requires represents { D.is_modelled → Represents device (D.size d.old) (D.seen d.old) }
-    ensures { Does D.Disk device (option_map (λ s. s.now) staged.entry) (Flash name.now chunk)
+    ensures does { Does D.Disk device (option_map (λ s. s.now) staged.entry) (Flash name.now chunk)
         (IsOfFlash device name.now) d.old d.new result }
+    // Of the sectors of the statuses it writes the first free one alone.
+    ensures free { D.is_modelled
+        → Touches D.Disk (InSectors (IsFreeOrOther (D.seen d.old))) d.old d.new }
 {
     match choose(&device, name, staged) {
         Err(refusal) => Ok((device, Reply::Refused(refusal))),

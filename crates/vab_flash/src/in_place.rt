@@ -1,6 +1,7 @@
 //! An image that is written into the own blocks of a planned partition.
 
 ghost use Rattle.std.specs.Prelude.{Some};
+ghost use Rattle.vab_disk.specs.Calls.{InSectors, Touches};
 ghost use Rattle.vab_space.specs.declared.Chunk.{Chunk as ChunkOf};
 ghost use Rattle.vab_statuses.specs.Statuses.{IsOfStatuses, IsFirstFree};
 ghost use Rattle.vab_model.specs.Commands.{Flash};
@@ -8,7 +9,7 @@ ghost use Rattle.vab_device.specs.Does.{Does};
 ghost use Rattle.vab_device.specs.Kept.{IsDevice};
 ghost use Rattle.vab_device.specs.Reading.{Represents};
 ghost use Rattle.vab_flash.specs.Chosen.{IsChosen};
-ghost use Rattle.vab_flash.specs.Touched.{IsOfFlash};
+ghost use Rattle.vab_flash.specs.Touched.{IsOfFlash, IsFreeOrOther};
 
 use crate::chosen::{Destination, planned_at};
 use crate::plan::written;
@@ -40,9 +41,11 @@ fn place_image<D: Disk>(
         bytes.now }
     requires there { IsOfStatuses free }
     requires free { D.is_modelled → IsFirstFree (D.seen d.old) (Some free) }
-    ensures { (chunk : ChunkOf)
+    ensures does { (chunk : ChunkOf)
         → Does D.Disk device (Some bytes.now) (Flash name.now chunk) (IsOfFlash device name.now)
         d.old d.new result }
+    ensures free { D.is_modelled
+        → Touches D.Disk (InSectors (IsFreeOrOther (D.seen d.old))) d.old d.new }
 {
     match write_image(d, &planned_at(&device, place).map, bytes) {
         Err(fault) => Err(fault),
@@ -78,9 +81,12 @@ pub fn flash_in_place<D: Disk>(
     requires chosen { IsChosen device name.now (Some bytes.now) place Destination.Blocks
         bytes.now }
     // Chunks are those of stores: the size that was asked for changes nothing.
-    ensures { (chunk : ChunkOf)
+    ensures does { (chunk : ChunkOf)
         → Does D.Disk device (Some bytes.now) (Flash name.now chunk) (IsOfFlash device name.now)
         d.old d.new result }
+    // Of the sectors of the statuses it writes the first free one alone.
+    ensures free { D.is_modelled
+        → Touches D.Disk (InSectors (IsFreeOrOther (D.seen d.old))) d.old d.new }
 {
     match free_or_last(d) {
         Ok(free) => place_image(alloc, d, device, name, place, bytes, free),

@@ -127,7 +127,7 @@ pub returns-in-Flash : goal.returns-in-Flash
 returns-in-Flash g c =
     of g.D.Disk c.args.device (option_map (λ s. s.now) c.args.staged) c.args.d.now
     c.args.command.now _ _ _ c.in-Flash.is
-    c.flash.ensures
+    c.flash.ensures.does
 
 pub returns-in-Finish : goal.returns-in-Finish
 returns-in-Finish g c =

@@ -1,6 +1,6 @@
 use Rattle.std.proofs.Common.{◌≡◌, ℕ, ◌≤◌, ◌<◌, List, length, Some, IfSome, false, true, refl, sym}
 use Rattle.std.proofs.Common.{ap, ◌∙◌, subst, arith}
-use Rattle.vab_disk.proofs.CallLaws.{reads_none}
+use Rattle.vab_disk.proofs.CallLaws.{reads_none, touches_none}
 use Rattle.vab_space.specs.Chunks.{chunks_for, need_at}
 use Rattle.vab_install.specs.Differing.{AscendsBelow}
 use Rattle.vab_model.specs.Commands.{Flash}
@@ -14,8 +14,8 @@ use Rattle.vab_flash.proofs.FlashLaws.{base_all}
 use Rattle.vab_flash.proofs.ReadyLaws.{no_memory, full_refused}
 use Rattle.vab_flash.proofs.flashing.flash_found.Goals as goal
 
-pub returns-then-needed-have : goal.returns-then-needed-have
-returns-then-needed-have g c =
+pub returns-then-needed-have-clause-does : goal.returns-then-needed-have-clause-does
+returns-then-needed-have-clause-does g c =
     let d = c.args.device in
     let k = c.args.chunk in
     let name = c.args.name.now in
@@ -64,8 +64,8 @@ flash_place-requires-clause-exact g c = λ t.
     c.as_slice.ensures.value
     ∙ subst (λ o. IfSome o (λ v. v.items ≡ listed)) c.in-Some.is (c.requires.exact t)
 
-pub returns-in-None : goal.returns-in-None
-returns-in-None g c =
+pub returns-in-None-clause-does : goal.returns-in-None-clause-does
+returns-in-None-clause-does g c =
     let d = c.args.device in
     let k = c.args.chunk in
     let name = c.args.name.now in
@@ -83,3 +83,9 @@ returns-in-None g c =
     (base_all d (g.D.Disk.size disk) place c.requires.kept)
     (subst (λ (n : ℕ). need_at n k ≤ store_long d place) (c.requires.count t) room))
     (reads_none g.D.Disk disk) refl
+
+pub returns-then-needed-have-clause-free : goal.returns-then-needed-have-clause-free
+returns-then-needed-have-clause-free g c = λ t. touches_none g.D.Disk _ _
+
+pub returns-in-None-clause-free : goal.returns-in-None-clause-free
+returns-in-None-clause-free g c = λ t. touches_none g.D.Disk _ _

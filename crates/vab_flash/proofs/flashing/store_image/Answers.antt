@@ -23,6 +23,7 @@ use Rattle.vab_flash.proofs.FlashLaws.{base_all}
 use Rattle.vab_flash.proofs.ReadyLaws.{apart, disjoint, first_dead, no_memory, room_follows}
 use Rattle.vab_flash.proofs.GatedLaws.{name_short, in_flash, stored, name_is, status_in_flash}
 use Rattle.vab_flash.proofs.GatedLaws.{kept_stored}
+use Rattle.vab_flash.proofs.TakenLaws.{store_other, taken_none, taken_first}
 use Rattle.vab_flash.proofs.flashing.store_image.Goals as goal
 
 pub write_place-requires-clause-apart : goal.write_place-requires-clause-apart
@@ -42,8 +43,8 @@ full_name-requires-clause-short g c =
     name_short c.args.device (g.D.Disk.size c.args.d.now) c.args.place c.planned_at.result.now
     c.requires.kept c.requires.chosen.within c.planned_at.ensures
 
-pub returns-in-Err-NoMemory : goal.returns-in-Err-NoMemory
-returns-in-Err-NoMemory g c =
+pub returns-in-Err-NoMemory-clause-does : goal.returns-in-Err-NoMemory-clause-does
+returns-in-Err-NoMemory-clause-does g c =
     let d = c.args.device in
     let k = c.args.chunk in
     let name = c.args.name.now in
@@ -63,8 +64,8 @@ returns-in-Err-NoMemory g c =
     (subst (λ f. CountsFaults {X = List Exception} g.D.Disk disk c.write_place.new.d (Err f))
     c.in-Err-NoMemory.field-0-is c.in-Err-NoMemory.ensures.counts)
 
-pub returns-in-Err-Disk : goal.returns-in-Err-Disk
-returns-in-Err-Disk g c =
+pub returns-in-Err-Disk-clause-does : goal.returns-in-Err-Disk-clause-does
+returns-in-Err-Disk-clause-does g c =
     let d = c.args.device in
     let name = c.args.name.now in
     let disk = c.args.d.now in
@@ -93,8 +94,8 @@ returns-in-Err-Disk g c =
     (subst (λ f. CountsFaults {X = List Exception} g.D.Disk disk c.write_place.new.d (Err f))
     c.in-Err-Disk.field-0-is c.in-Err-Disk.ensures.counts)
 
-pub returns-in-Err : goal.returns-in-Err
-returns-in-Err g c =
+pub returns-in-Err-clause-does : goal.returns-in-Err-clause-does
+returns-in-Err-clause-does g c =
     let d = c.args.device in
     let name = c.args.name.now in
     let disk = c.args.d.now in
@@ -146,8 +147,8 @@ returns-in-Err g c =
     c.requires.chosen.has c.requires.there status_is)
     c.in-Err.fault (failed_then _ _ _ ok.counts c.in-Err.ensures.faults.cause)
 
-pub returns-in-Ok-put_status : goal.returns-in-Ok-put_status
-returns-in-Ok-put_status g c =
+pub returns-in-Ok-put_status-clause-does : goal.returns-in-Ok-put_status-clause-does
+returns-in-Ok-put_status-clause-does g c =
     let d = c.args.device in
     let name = c.args.name.now in
     let disk = c.args.d.now in
@@ -205,3 +206,49 @@ returns-in-Ok-put_status g c =
     (record { geometry = refl; slot = refl; parts = refl })
     (λ t. c.in-Ok-put_status.ensures.written t) (λ t. c.in-Ok-put_status.ensures.settled t)
     (c.in-Ok-put_status.ensures.faults.steady ∙ ok.counts))
+
+pub returns-in-Err-NoMemory-clause-free : goal.returns-in-Err-NoMemory-clause-free
+returns-in-Err-NoMemory-clause-free g c = λ t.
+    let d = c.args.device in
+    let disk = c.args.d.now in
+    let n = need_at (length c.args.olds.now) c.args.chunk in
+    taken_none g.D.Disk (InFirst (store_at d c.args.place) n) disk c.write_place.new.d
+    c.write_place.ensures.touches
+    (λ s. store_other d (g.D.Disk.size disk) (g.D.Disk.seen disk) c.requires.kept
+    (c.requires.represents t) c.args.name.now (Some c.args.bytes.now) c.args.place c.args.bytes.now
+    c.requires.chosen n s c.requires.listed.room)
+
+pub returns-in-Err-Disk-clause-free : goal.returns-in-Err-Disk-clause-free
+returns-in-Err-Disk-clause-free g c = λ t.
+    let d = c.args.device in
+    let disk = c.args.d.now in
+    let n = need_at (length c.args.olds.now) c.args.chunk in
+    taken_none g.D.Disk (InFirst (store_at d c.args.place) n) disk c.write_place.new.d
+    c.write_place.ensures.touches
+    (λ s. store_other d (g.D.Disk.size disk) (g.D.Disk.seen disk) c.requires.kept
+    (c.requires.represents t) c.args.name.now (Some c.args.bytes.now) c.args.place c.args.bytes.now
+    c.requires.chosen n s c.requires.listed.room)
+
+pub returns-in-Err-clause-free : goal.returns-in-Err-clause-free
+returns-in-Err-clause-free g c = λ t.
+    let d = c.args.device in
+    let disk = c.args.d.now in
+    let n = need_at (length c.args.olds.now) c.args.chunk in
+    taken_first g.D.Disk (InFirst (store_at d c.args.place) n) disk c.write_place.new.d
+    c.put_status.new.d c.args.free _ c.write_place.ensures.touches
+    (λ s. store_other d (g.D.Disk.size disk) (g.D.Disk.seen disk) c.requires.kept
+    (c.requires.represents t) c.args.name.now (Some c.args.bytes.now) c.args.place c.args.bytes.now
+    c.requires.chosen n s c.requires.listed.room)
+    c.put_status.ensures.touches (c.requires.free t)
+
+pub returns-in-Ok-put_status-clause-free : goal.returns-in-Ok-put_status-clause-free
+returns-in-Ok-put_status-clause-free g c = λ t.
+    let d = c.args.device in
+    let disk = c.args.d.now in
+    let n = need_at (length c.args.olds.now) c.args.chunk in
+    taken_first g.D.Disk (InFirst (store_at d c.args.place) n) disk c.write_place.new.d
+    c.put_status.new.d c.args.free _ c.write_place.ensures.touches
+    (λ s. store_other d (g.D.Disk.size disk) (g.D.Disk.seen disk) c.requires.kept
+    (c.requires.represents t) c.args.name.now (Some c.args.bytes.now) c.args.place c.args.bytes.now
+    c.requires.chosen n s c.requires.listed.room)
+    c.put_status.ensures.touches (c.requires.free t)

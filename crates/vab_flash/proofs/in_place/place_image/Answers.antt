@@ -22,6 +22,7 @@ use Rattle.vab_flash.specs.Touched.{IsOfFlash}
 use Rattle.vab_flash.proofs.GatedLaws.{name_short, name_is, placed, kept_placed, own_in_flash}
 use Rattle.vab_flash.proofs.GatedLaws.{status_in_flash}
 use Rattle.vab_flash.proofs.InPlaceLaws.{own_apart, own_dead, placed_follows}
+use Rattle.vab_flash.proofs.TakenLaws.{own_other, taken_none, taken_first}
 use Rattle.vab_flash.proofs.in_place.place_image.Goals as goal
 
 pub write_image-requires-clause-apart : goal.write_image-requires-clause-apart
@@ -37,8 +38,8 @@ full_name-requires-clause-short g c =
     c.planned_at-in-Ok.result.now c.requires.kept c.requires.chosen.within
     c.planned_at-in-Ok.ensures
 
-pub returns-in-Err : goal.returns-in-Err
-returns-in-Err g c = λ chunk.
+pub returns-in-Err-clause-does : goal.returns-in-Err-clause-does
+returns-in-Err-clause-does g c = λ chunk.
     let d = c.args.device in
     let name = c.args.name.now in
     let bytes = c.args.bytes.now in
@@ -58,8 +59,8 @@ returns-in-Err g c = λ chunk.
     (c.requires.represents t) name (Some bytes) place bytes c.requires.chosen chunk)
     c.in-Err.ensures.faults.cause
 
-pub returns-in-Err-put_status : goal.returns-in-Err-put_status
-returns-in-Err-put_status g c = λ chunk.
+pub returns-in-Err-put_status-clause-does : goal.returns-in-Err-put_status-clause-does
+returns-in-Err-put_status-clause-does g c = λ chunk.
     let d = c.args.device in
     let name = c.args.name.now in
     let bytes = c.args.bytes.now in
@@ -100,8 +101,8 @@ returns-in-Err-put_status g c = λ chunk.
     c.in-Err-put_status.fault
     (failed_then _ _ _ c.in-Ok.ensures.faults.steady c.in-Err-put_status.ensures.faults.cause)
 
-pub returns-in-Ok-put_status : goal.returns-in-Ok-put_status
-returns-in-Ok-put_status g c = λ chunk.
+pub returns-in-Ok-put_status-clause-does : goal.returns-in-Ok-put_status-clause-does
+returns-in-Ok-put_status-clause-does g c = λ chunk.
     let d = c.args.device in
     let name = c.args.name.now in
     let bytes = c.args.bytes.now in
@@ -149,3 +150,49 @@ returns-in-Ok-put_status g c = λ chunk.
     (record { geometry = refl; slot = refl; parts = refl })
     (λ t. c.in-Ok-put_status.ensures.written t) (λ t. c.in-Ok-put_status.ensures.settled t)
     (c.in-Ok-put_status.ensures.faults.steady ∙ c.in-Ok.ensures.faults.steady))
+
+pub returns-in-Err-clause-free : goal.returns-in-Err-clause-free
+returns-in-Err-clause-free g c = λ t.
+    let d = c.args.device in
+    let disk = c.args.d.now in
+    let own : List ℕ = (planned_at d c.args.place).map in
+    let touches : Touches g.D.Disk (InSectors (InFirst own (length own))) disk c.write_image.new.d =
+    subst (λ (p : Part).
+    Touches g.D.Disk (InSectors (InFirst p.map (length p.map))) disk c.write_image.new.d)
+    c.planned_at.ensures c.write_image.ensures.touches in
+    taken_none g.D.Disk (InFirst own (length own)) disk c.write_image.new.d touches
+    (λ s. own_other d (g.D.Disk.size disk) (g.D.Disk.seen disk) c.requires.kept
+    (c.requires.represents t) c.args.name.now (Some c.args.bytes.now) c.args.place c.args.bytes.now
+    c.requires.chosen s)
+
+pub returns-in-Err-put_status-clause-free : goal.returns-in-Err-put_status-clause-free
+returns-in-Err-put_status-clause-free g c = λ t.
+    let d = c.args.device in
+    let disk = c.args.d.now in
+    let own : List ℕ = (planned_at d c.args.place).map in
+    let touches : Touches g.D.Disk (InSectors (InFirst own (length own))) disk c.write_image.new.d =
+    subst (λ (p : Part).
+    Touches g.D.Disk (InSectors (InFirst p.map (length p.map))) disk c.write_image.new.d)
+    c.planned_at.ensures c.write_image.ensures.touches in
+    taken_first g.D.Disk (InFirst own (length own)) disk c.write_image.new.d c.put_status.new.d
+    c.args.free _ touches
+    (λ s. own_other d (g.D.Disk.size disk) (g.D.Disk.seen disk) c.requires.kept
+    (c.requires.represents t) c.args.name.now (Some c.args.bytes.now) c.args.place c.args.bytes.now
+    c.requires.chosen s)
+    c.put_status.ensures.touches (c.requires.free t)
+
+pub returns-in-Ok-put_status-clause-free : goal.returns-in-Ok-put_status-clause-free
+returns-in-Ok-put_status-clause-free g c = λ t.
+    let d = c.args.device in
+    let disk = c.args.d.now in
+    let own : List ℕ = (planned_at d c.args.place).map in
+    let touches : Touches g.D.Disk (InSectors (InFirst own (length own))) disk c.write_image.new.d =
+    subst (λ (p : Part).
+    Touches g.D.Disk (InSectors (InFirst p.map (length p.map))) disk c.write_image.new.d)
+    c.planned_at.ensures c.write_image.ensures.touches in
+    taken_first g.D.Disk (InFirst own (length own)) disk c.write_image.new.d c.put_status.new.d
+    c.args.free _ touches
+    (λ s. own_other d (g.D.Disk.size disk) (g.D.Disk.seen disk) c.requires.kept
+    (c.requires.represents t) c.args.name.now (Some c.args.bytes.now) c.args.place c.args.bytes.now
+    c.requires.chosen s)
+    c.put_status.ensures.touches (c.requires.free t)
