@@ -88,7 +88,7 @@ module _ {D : Type 0} (g : Ghosts D) where
       → IsFirstFree (g.seen a) (Some at)
       → Touches g (InSectors (IsFreeOrOther (g.seen a))) a c
   taken_first V a b c at bytes touches other gate free =
-      touches_on g (InSectors V) (IsAt at bytes) (InSectors (IsFreeOrOther (g.seen a))) a b c touches
-      gate
+      touches_on g (InSectors V) (IsAt at bytes) (InSectors (IsFreeOrOther (g.seen a))) a b c
+      touches gate
       (λ s x w is. absurd (other s w is))
       (λ s x w is. subst (λ (n : ℕ). IsFirstFree (g.seen a) (Some n)) (sym w.0) free)
