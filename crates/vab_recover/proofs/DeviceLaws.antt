@@ -3,10 +3,11 @@ use Rattle.std.proofs.Common.{◌≡◌, ◌≢◌, ℕ, ◌+◌, ◌*◌, ◌�
 use Rattle.std.proofs.Common.{◌∷◌, ◌++◌, length, get_or, Option, Some, None, refl, sym, ◌∙◌, ap}
 use Rattle.std.proofs.Common.{subst, arith}
 use Rattle.std.proofs.Common.{zero, suc, false}
-use Rattle.std.specs.Prelude.{All, AllPairs, is_some}
+use Rattle.std.specs.Prelude.{All, AllPairs, Contains, is_some}
 use Rattle.std.proofs.lemmas.Bool.{cases_Bool}
 use Rattle.std.proofs.lemmas.List.{length-map, get_or-map}
-use Rattle.std.proofs.lemmas.List.Elements.{All-map, filter_passes}
+use Rattle.std.proofs.lemmas.List.Elements.{All-map, Contains-get_or}
+use Rattle.vab_device.proofs.StoreParts.{store_is}
 use Rattle.vab_names.specs.Names.{is_of_slot}
 use Rattle.vab_bootctl.specs.declared.slots.Control.{Control}
 use Rattle.vab_geometry.specs.declared.geometry.Geometry.{Geometry}
@@ -17,7 +18,7 @@ use Rattle.vab_tables.specs.Rules.{cap_of, KeepsRules}
 use Rattle.vab_layout.specs.declared.layout.Part.{Part as PartOfLayout}
 use Rattle.vab_layout.specs.declared.layout.Layout.{Layout}
 use Rattle.vab_layout.specs.Layout.{layout_of, blocks_of_parts}
-use Rattle.vab_layout.specs.Rules.{IsPart as IsPartOfLayout, IsLayout}
+use Rattle.vab_layout.specs.Rules.{IsLayout}
 use Rattle.vab_layout.proofs.LayoutLaws.{layout_keeps}
 use Rattle.vab_layout.specs.Slots.{other_slot, own_parts, IsOwn, IsDistinct}
 use Rattle.vab_device.specs.Kept.{lies_in, sectors_of, part_on, parts_of}
@@ -28,11 +29,10 @@ use Rattle.std.specs.Str.{bytes_eq}
 use Rattle.std.proofs.lemmas.Slice.Eq.{bytes_eq-Decides}
 use Rattle.std.proofs.lemmas.List.Elements.{All-head, All-tail}
 use Rattle.std.proofs.lemmas.List.Kept.{AllPairs-filter}
-use Rattle.vab_names.specs.Names.{is_store, store_of}
+use Rattle.vab_names.specs.Names.{store_of}
 use Rattle.vab_marks.specs.declared.mark.MarkPhase.{MarkPhase}
 use Rattle.vab_marks.specs.declared.status.PartStatus.{PartStatus}
 use Rattle.vab_lpstore.specs.declared.loaded.Loaded.{Loaded}
-use Rattle.vab_names.proofs.NameCases.{store_is_store}
 use Rattle.vab_layout.specs.Slots.{store_parts, is_updated, IsTargetBeside}
 use Rattle.vab_device.specs.Kept.{IsStore, IsStored, IsPart, AreParts, AreOfUpdate, IsPhase}
 use Rattle.vab_device.specs.Kept.{has_slot, reads_both}
@@ -43,9 +43,8 @@ use Rattle.vab_partitions.specs.Merging.{IsMerging}
 use Rattle.vab_plan.specs.Scans.{IsTargetTable}
 use Rattle.vab_recover.specs.Scans.{AreExceptions, IsScanned}
 use Rattle.vab_recover.specs.Opened.{read_of, target_tables, AreHeads}
-use Rattle.vab_plan.proofs.PlanLaws.{first_filter, first_all}
-use Rattle.vab_device.proofs.OwnParts.{pairs_right, each_distinct, length-sectors_of}
-use Rattle.vab_device.proofs.OwnParts.{sectors_distinct, sectors_on, blocks_on, parts_kept}
+use Rattle.vab_device.proofs.OwnParts.{length-sectors_of}
+use Rattle.vab_device.proofs.OwnParts.{blocks_on, parts_kept}
 
 -- ---- the partitions that are planned
 
