@@ -54,9 +54,10 @@ abbrev pub layout_by : EditOf → (apart : Bool) → (max source : ℕ) → (s t
 layout_by edit apart max source s t =
     if_fitting max (edit apart (other_slot source) (layout_of s) (layout_of t))
 
--- What an edit writes, which this keeps from a plan: a sector of the copies of the target's table,
--- with its part of the text of the table that the edit gives, whose extents are the maximal runs of
--- its partitions. Where no update is installed, and where the edit is refused, nothing is written.
+-- What an edit with this guard writes: a sector of the copies of the target's table, with its part
+-- of the text of the table that the edit gives of those of source and target, whose extents are the
+-- maximal runs of its partitions. Where no update is installed, where the guard keeps the edit from
+-- the plan, and where it gives no table, nothing is written.
 pub record IsOfEdit (d : Device) (guard : Guard) (edit : EditOf) (s : ℕ) (b : List ℕ)
     : Type 0 where
   pub source : Table
