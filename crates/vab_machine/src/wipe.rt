@@ -51,7 +51,7 @@ fn base(name: &Name36) -> Name36
 // ---- the partitions that are left
 
 // A group without its slot's suffix; none for that of no slot.
-#[tactic(auto, using(crate::proofs::WipeLaws::group_long))]
+#[tactic(auto, using(vab_layout::proofs::OwnNames::group_long))]
 fn group_base(group: &Group) -> Option<Name36>
     requires { IsGroup group.now }
     ensures { result ≡ group_of (group.now).name }
@@ -95,7 +95,7 @@ fn empty_images(alloc: Global, table: &Table, slot: usize) -> Result<Listing<Ima
 // ---- the groups that are left
 
 // A group with its limit.
-#[tactic(auto, using(crate::proofs::WipeLaws::group_long))]
+#[tactic(auto, using(vab_layout::proofs::OwnNames::group_long))]
 fn limit(group: &Group) -> GroupLimit
     requires { IsGroup group.now }
     ensures { result ≡ record { name = base_of group.now.name; limit = group.now.maximum_size } }
