@@ -1,14 +1,15 @@
 -- What a run of the program promises.
 use Rattle.std.specs.Prelude.{◌≡◌, ◌⊎◌, ◌^◌, ◌≤◌, ◌-◌, ℕ, List, [], ◌∷◌, ◌++◌, length, take, drop}
-use Rattle.std.specs.Prelude.{codes, Bool, Option}
+use Rattle.std.specs.Prelude.{codes, Bool, Option, Err}
 use Rattle.vab_disk.specs.declared.disk.Disk.{Ghosts}
 use Rattle.vab_disk.specs.Disk.{Image, Outcome, Adds, Faults, DiskFailed, SinkFailed, SourceFailed}
 use Rattle.vab_disk.specs.Calls.{IsAtRest}
 use Rattle.vab_set.specs.declared.set.SetImage.{SetImage}
 use Rattle.vab_model.specs.declared.state.Image.{Image as ImageOfSlot}
 use Rattle.vab_model.specs.Effects.{IsOneOf}
+use Rattle.vab_device.specs.declared.fault.StartFault.{StartFault}
 use Rattle.vab_device.specs.Mounted.{Mounted}
-use Rattle.vab_device.specs.Reading.{IsIn}
+use Rattle.vab_device.specs.Reading.{device, IsIn}
 use Rattle.vab_make.specs.Made.{made_device_of}
 use Rattle.vab_make.specs.Making.{LeavesMaking}
 use Rattle.vab_exchanges.specs.Session.{Exchange, End, IsSession, waits_in}
