@@ -6,7 +6,7 @@ use Rattle.vab_disk.specs.Calls.{InSectors, SameBut}
 use Rattle.vab_store.specs.Layout.{chunk_bytes, IsApart, AreDisjoint}
 use Rattle.vab_store.specs.Reached.{IsOfBlock}
 use Rattle.vab_store.proofs.ChunkLaws.{apart_of, apart_sector, chunk_same}
-use Rattle.vab_overlay.specs.Data.{IsOfSome}
+use Rattle.vab_overlay.specs.Data.{IsZeroAt}
 
 -- a sector of one of a store's blocks, of which P holds
 pub record InBlock (store : List ℕ) (P : ℕ → Type 0) (s : ℕ) : Type 0 where
@@ -53,26 +53,26 @@ base_kept base store P old new b disjoint but below =
     (disjoint b written.block below written.within) here))
     (but s))
 
--- fewer blocks
-pub but_wider : (store : List ℕ) (P : ℕ → Type 0) (W : ℕ → Type 0) (old new : Image)
-    → ((s : ℕ) → W s → InBlock store P s)
-    → SameBut (InSectors W) old new
+-- what is written there alone
+pub but_wider : (store : List ℕ) (P : ℕ → Type 0) (W : ℕ → List ℕ → Type 0) (old new : Image)
+    → ((s : ℕ) (b : List ℕ) → W s b → InBlock store P s)
+    → SameBut W old new
     → SameBut (InSectors (InBlock store P)) old new
 but_wider store P W old new wider but s =
-    ⊎_elim (λ same. inl same) (λ written. inr (wider s written)) (but s)
+    ⊎_elim (λ same. inl same) (λ written. inr (wider s (new s) written)) (but s)
 
 -- the page that is zeroed, where there is one
 abbrev pub IsThat : Option ℕ → ℕ → Type 0
 IsThat next b = next ≡ Some b
 
-pub some_in : (store : List ℕ) (next : Option ℕ) (s : ℕ)
+pub some_in : (store : List ℕ) (next : Option ℕ) (s : ℕ) (x : List ℕ)
     → ((b : ℕ) → next ≡ Some b → b < length store)
-    → IsOfSome store next s
+    → IsZeroAt store next s x
     → InBlock store (IsThat next) s
-some_in store None s inside none = absurd none
-some_in store (Some b) s inside here = record {
+some_in store None s x inside none = absurd none
+some_in store (Some b) s x inside is = record {
   block = b;
   within = inside b refl;
-  here = here;
+  here = record { from = is.first; below = is.last };
   is = refl;
 }

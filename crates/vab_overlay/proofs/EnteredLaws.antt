@@ -126,7 +126,8 @@ module _ (es : List Exception) (block chunk : ℕ) where
       → j ≡ entry_place es block
       → exception_at (set_entry es block chunk) j ≡ exception_of block chunk
   at_place j here =
-      ap (exception_at (set_entry es block chunk)) here ∙ set_entry-here es block chunk
+      ap (exception_at (set_entry es block chunk)) here
+      ∙ set_entry-here es block chunk
 
   pub entered_fits : (bound : ℕ) (store : List ℕ)
       → Fits One bound store es

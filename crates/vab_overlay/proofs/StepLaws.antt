@@ -1,13 +1,13 @@
 -- The two steps of a write, on a disk.
-use Rattle.std.proofs.Common.{◌≡◌, inl, inr, ⊎_elim, ℕ, ◌+◌, ◌/◌, ◌%◌, ◌≤◌, ◌<◌, List, length}
+use Rattle.std.proofs.Common.{◌≡◌, ◌≢◌, inl, inr, ⊎_elim, ℕ, ◌+◌, ◌/◌, ◌%◌, ◌≤◌, ◌<◌, List, length}
 use Rattle.std.proofs.Common.{replicate, refl, sym, ◌∙◌, ap, subst, arith, true, false, Bool, ◌==◌}
 use Rattle.std.proofs.Common.{◌&&◌, cond}
 use Rattle.std.specs.Prelude.{slice_index, Option, Some, None, IfSome}
 use Rattle.std.proofs.lemmas.Bool.{and_parts, eqb-true}
 use Rattle.vab_disk.specs.declared.disk.Disk.{Ghosts}
 use Rattle.vab_disk.specs.Disk.{Image, Adds}
-use Rattle.vab_disk.specs.Calls.{InSectors, SameBut, Touches, IsAtRest}
-use Rattle.vab_disk.proofs.CallLaws.{touches_wider, touches_on}
+use Rattle.vab_disk.specs.Calls.{SameBut, Touches, IsAtRest}
+use Rattle.vab_disk.proofs.CallLaws.{quiet_then, touches_wider, touches_on}
 use Rattle.vab_disk.proofs.Moments.{adds_wider, adds_on}
 use Rattle.vab_exceptions.specs.declared.area.Exception.{Exception}
 use Rattle.vab_space.specs.Space.{need_of}
@@ -16,13 +16,16 @@ use Rattle.vab_space.specs.Chunks.{page_block}
 use Rattle.vab_space.proofs.ChunkLaws.{page_apart, page_inside, page_positive, pages_ascend}
 use Rattle.vab_space.proofs.ChunkLaws.{data_other, data_some}
 use Rattle.vab_store.specs.Layout.{chunk_bytes, IsApart, IsOnDisk}
+use Rattle.vab_store.specs.Reached.{IsOfBlock}
+use Rattle.vab_store.specs.Sectors.{entry_sector}
+use Rattle.vab_store.proofs.ChunkLaws.{apart_of, apart_sector}
 use Rattle.vab_store.specs.Setting.{entry_place, set_entry, IsLowestFree}
 use Rattle.vab_store.specs.View.{exception_at, Fits}
 use Rattle.vab_store.proofs.ScanLaws.{scan_of_ok}
 use Rattle.vab_store.proofs.SettingLaws.{exception_of, place_most}
-use Rattle.vab_overlay.specs.Data.{next_page, IsOfSome, IsOfData}
-use Rattle.vab_overlay.specs.Entry.{LeavesEntry, IsOfEntry}
-use Rattle.vab_overlay.specs.Overlaid.{IsOverlaid, IsKept, LeavesOverlaid, IsOverlaySector}
+use Rattle.vab_overlay.specs.Data.{next_page, IsZeroAt, IsDataAt}
+use Rattle.vab_overlay.specs.Entry.{IsPut, LeavesEntry, IsEntryAt}
+use Rattle.vab_overlay.specs.Overlaid.{IsOverlaid, IsKept, LeavesOverlaid, IsOverlaying}
 use Rattle.vab_overlay.proofs.DataLaws.{InBlock, but_wider}
 use Rattle.vab_overlay.proofs.EnteredLaws.{next_inside}
 use Rattle.vab_overlay.proofs.KeptLaws.{IsUnseen, SameSeen, kept}
@@ -96,58 +99,92 @@ module _ (store : List ℕ) (bound : ℕ) (es : List Exception) (block chunk : �
       subst (λ (n : ℕ). n < length store) fills.block_is
       (next_inside (length es) store enough fills.fills)
 
-  of_next : (next : Option ℕ) (s : ℕ)
+  of_next : (next : Option ℕ) (s : ℕ) (x : List ℕ)
       → ((b : ℕ) → next ≡ Some b → IsUnseen es b)
       → ((b : ℕ) → next ≡ Some b → b < length store)
-      → IsOfSome store next s
+      → IsZeroAt store next s x
       → InBlock store (IsUnseen es) s
-  of_next None s unseen within none = absurd none
-  of_next (Some b) s unseen within here = record {
+  of_next None s x unseen within none = absurd none
+  of_next (Some b) s x unseen within is = record {
     block = b;
     within = within b refl;
-    here = here;
+    here = record { from = is.first; below = is.last };
     is = unseen b refl;
   }
 
   -- the data is unseen
-  pub data_unseen : (s : ℕ)
-      → IsOfData store chunk (next_page (length es) (entry_place es block)) s
+  pub data_unseen : (from : List ℕ) (s : ℕ) (x : List ℕ)
+      → IsDataAt store chunk from (next_page (length es) (entry_place es block)) s x
       → InBlock store (IsUnseen es) s
-  data_unseen s is =
+  data_unseen from s x is =
       ⊎_elim
-      (λ here. record { block = chunk; within = inside; here = here; is = chunk_unseen })
-      (of_next (next_page (length es) (entry_place es block)) s next_unseen next_there)
+      (λ here. record {
+        block = chunk;
+        within = inside;
+        here = record { from = here.first; below = here.last };
+        is = chunk_unseen;
+      })
+      (of_next (next_page (length es) (entry_place es block)) s x next_unseen next_there)
       is
 
   -- and stands in the store
-  pub data_sector : (s : ℕ)
-      → IsOfData store chunk (next_page (length es) (entry_place es block)) s
-      → IsOverlaySector store es block s
-  data_sector s is =
-      let at = data_unseen s is in
+  pub data_overlays : (from : List ℕ) (image : Image) (s : ℕ) (x : List ℕ)
+      → IsDataAt store chunk from (next_page (length es) (entry_place es block)) s x
+      → IsOverlaying store es block from image s x
+  data_overlays from image s x is =
+      let at = data_unseen from s x is in
       record {
         inside = record { block = at.block; within = at.within; here = at.here };
-        which = ⊎_elim (λ here. inl (chunk, lowest, here)) (λ next. inr (inl next)) is;
+        which = (chunk, lowest, inl is);
       }
 
-  pub entry_place_sector : (s : ℕ)
-      → IsOfEntry store (entry_place es block) s
-      → IsOverlaySector store es block s
-  entry_place_sector s is =
+  -- the page of the entry
+  page_in : page_block One (entry_place es block / 256) < length store
+  page_in =
+      page_inside One (length store) (entry_place es block / 256)
+      (omega (arith, place_most es block, fits.room))
+
+  -- its sector is one of that page
+  entry_of_page : (s : ℕ)
+      → s ≡ entry_sector One store (entry_place es block)
+      → IsOfBlock store (page_block One (entry_place es block / 256)) s
+  entry_of_page s is =
       let p : ℕ = entry_place es block in
       let page : (p / 32) / 8 ≡ p / 256 = omega arith in
       let at : s ≡ slice_index store (page_block One (p / 256)) + (p / 32) % 8 =
       is ∙ ap (λ (n : ℕ). slice_index store (page_block One n) + (p / 32) % 8) page in
-      record {
-        inside = record {
-          block = page_block One (p / 256);
-          within =
-              page_inside One (length store) (p / 256)
-              (omega (arith, place_most es block, fits.room));
-          here = record { from = omega (arith, at); below = omega (arith, at) };
-        };
-        which = inr (inr is);
-      }
+      record { from = omega (arith, at); below = omega (arith, at) }
+
+  pub entry_overlays : (from : List ℕ) (image : Image) (s : ℕ) (x : List ℕ)
+      → IsEntryAt store (entry_place es block) (exception_of block chunk) image s x
+      → IsOverlaying store es block from image s x
+  entry_overlays from image s x is = record {
+    inside = record {
+      block = page_block One (entry_place es block / 256);
+      within = page_in;
+      here = entry_of_page s is.here;
+    };
+    which = (chunk, lowest, inr is);
+  }
+
+  -- that sector stays as long as the data is written
+  pub entry_stays : (old mid : Image) (s : ℕ)
+      → IsApart store
+      → SameSeen store es old mid
+      → s ≡ entry_sector One store (entry_place es block)
+      → mid s ≡ old s
+  entry_stays old mid s apart same is =
+      let page : ℕ = page_block One (entry_place es block / 256) in
+      ⊎_elim (λ as_before. as_before)
+      (λ (wrote : InBlock store (IsUnseen es) s).
+      let other : page ≢ wrote.block = λ one.
+      wrote.is.page (entry_place es block / 256) (omega (arith, place_most es block)) (sym one) in
+      ⊎_elim
+      (λ before. absurd (omega (arith, before, wrote.here.from)))
+      (λ behind. absurd (omega (arith, behind, wrote.here.below)))
+      (apart_sector (slice_index store page) (slice_index store wrote.block) s
+      (apart_of store page wrote.block apart page_in wrote.within other) (entry_of_page s is)))
+      (same s)
 
 -- ---- on a disk
 
@@ -157,34 +194,62 @@ module _ {D : Type 0} (g : Ghosts D) (store : List ℕ) (es : List Exception) (b
     (inside : chunk < length store)
     (enough : need_of (length es + 1) ≤ length store)
     (first : Touches g
-    (InSectors (IsOfData store chunk (next_page (length es) (entry_place es block)))) old mid)
+    (IsDataAt store chunk from (next_page (length es) (entry_place es block))) old mid)
   where
-    pub touches_data : (bound : ℕ)
-        → Fits One bound store es
-        → Touches g (InSectors (IsOverlaySector store es block)) old mid
-    touches_data bound fits =
-        touches_wider g (InSectors (IsOverlaySector store es block)) _ old mid first
-        (λ s b is. data_sector store bound es block chunk fits lowest inside enough s is)
-
-    pub touches_both : (bound : ℕ) (new : D)
-        → Fits One bound store es
-        → Touches g (InSectors (IsOfEntry store (entry_place es block))) mid new
-        → Touches g (InSectors (IsOverlaySector store es block)) old new
-    touches_both bound new fits second =
-        touches_on g _ (InSectors (IsOfEntry store (entry_place es block)))
-        (InSectors (IsOverlaySector store es block)) old mid new first second
-        (λ s b is. data_sector store bound es block chunk fits lowest inside enough s is)
-        (λ s b is. entry_place_sector store bound es block chunk fits lowest inside enough s is)
-
     same_seen : (bound : ℕ) (image : Image)
         → Fits One bound store es
-        → SameBut (InSectors (IsOfData store chunk (next_page (length es) (entry_place es block))))
+        → SameBut (IsDataAt store chunk from (next_page (length es) (entry_place es block)))
         (g.seen old) image
         → SameSeen store es (g.seen old) image
     same_seen bound image fits but =
         but_wider store (IsUnseen es)
-        (IsOfData store chunk (next_page (length es) (entry_place es block))) (g.seen old) image
-        (data_unseen store bound es block chunk fits lowest inside enough) but
+        (IsDataAt store chunk from (next_page (length es) (entry_place es block))) (g.seen old)
+        image
+        (data_unseen store bound es block chunk fits lowest inside enough from) but
+
+    pub touches_data : (bound : ℕ)
+        → Fits One bound store es
+        → Touches g (IsOverlaying store es block from (g.seen old)) old mid
+    touches_data bound fits =
+        touches_wider g (IsOverlaying store es block from (g.seen old)) _ old mid first
+        (data_overlays store bound es block chunk fits lowest inside enough from (g.seen old))
+
+    module _ (bound : ℕ) (new : D) (fits : Fits One bound store es)
+        (apart : g.is_modelled → IsApart store)
+        (second : Touches g
+        (IsEntryAt store (entry_place es block) (exception_of block chunk) (g.seen mid)) mid new)
+      where
+        entry_before : g.is_modelled
+            → (s : ℕ) (x : List ℕ)
+            → IsEntryAt store (entry_place es block) (exception_of block chunk) (g.seen mid) s x
+            → IsEntryAt store (entry_place es block) (exception_of block chunk) (g.seen old) s x
+        entry_before t s x is = record {
+          here = is.here;
+          put =
+              subst
+              (λ (was : List ℕ). IsPut (entry_place es block % 32) (exception_of block chunk) was x)
+              (entry_stays store bound es block chunk fits lowest inside enough (g.seen old)
+              (g.seen mid) s (apart t) (same_seen bound (g.seen mid) fits (first.seen t)) is.here)
+              is.put;
+        }
+
+        joined : g.is_modelled → Touches g (IsOverlaying store es block from (g.seen old)) old new
+        joined t =
+            touches_on g _ _ (IsOverlaying store es block from (g.seen old)) old mid new first
+            second
+            (data_overlays store bound es block chunk fits lowest inside enough from (g.seen old))
+            (λ s x is.
+            entry_overlays store bound es block chunk fits lowest inside enough from (g.seen old) s
+            x
+            (entry_before t s x is))
+
+        pub touches_both : Touches g (IsOverlaying store es block from (g.seen old)) old new
+        touches_both = record {
+          quiet = quiet_then g old mid new first.quiet second.quiet;
+          seen = λ t. (joined t).seen t;
+          crash = λ t. (joined t).crash t;
+          time = λ t. (joined t).time t;
+        }
 
     -- while the data is written
     pub time_data : (bound : ℕ)

@@ -6,13 +6,12 @@ use Rattle.vab_exceptions.specs.declared.area.Exception.{Exception}
 use Rattle.vab_space.specs.declared.Chunk.TheVariants.{One}
 use Rattle.vab_space.specs.Chunks.{page_entries}
 use Rattle.vab_store.specs.Layout.{slot_at, IsOnDisk, AreDisjoint, InFirst}
-use Rattle.vab_store.specs.Reached.{IsOfBlock}
 use Rattle.vab_store.specs.Scan.{scan_of}
 use Rattle.vab_store.specs.Seen.{view_block}
 use Rattle.vab_store.specs.Setting.{entry_place, set_entry, IsLowestFree}
 use Rattle.vab_store.specs.View.{Fits}
-use Rattle.vab_overlay.specs.Data.{next_page, IsOfSome}
-use Rattle.vab_overlay.specs.Entry.{IsOfEntry}
+use Rattle.vab_overlay.specs.Data.{next_page, IsDataAt}
+use Rattle.vab_overlay.specs.Entry.{IsEntryAt}
 
 -- The store lies on the disk, and with a bound above the block its exceptions keep the rules.
 pub record MayOverlay (store : List ℕ) (es : List Exception) (block size : ℕ) : Type 0 where
@@ -84,15 +83,23 @@ pub record LeavesOverlaid
   pub either : IsKept store bound es old o.image
       ⊎ ((now : List Exception) × IsWritten store bound es now block from old o.image)
 
--- a sector of the lowest free data chunk, of the next page where the new entry fills its own, or of
--- the entry
-abbrev pub IsOfOverlay : List ℕ → List Exception → ℕ → ℕ → Type 0
-IsOfOverlay store es block s =
-    ((chunk : ℕ) × IsLowestFree One es chunk × IsOfBlock store chunk s)
-    ⊎ (IsOfSome store (next_page (length es) (entry_place es block)) s
-    ⊎ IsOfEntry store (entry_place es block) s)
+-- What is written: the block's bytes to the lowest free data chunk, zeros to the next page where
+-- the new entry fills its own, and that entry in its sector, whose other entries stay.
+abbrev pub IsOfOverlay : List ℕ → List Exception → ℕ → List ℕ → Image → ℕ → List ℕ → Type 0
+IsOfOverlay store es block from image s b = (chunk : ℕ)
+    × IsLowestFree One es chunk
+    × (IsDataAt store chunk from (next_page (length es) (entry_place es block)) s b
+    ⊎ IsEntryAt store (entry_place es block) (record { old_chunk = block; new_chunk = chunk })
+    image s b)
 
--- it is one of the store's
-pub record IsOverlaySector (store : List ℕ) (es : List Exception) (block s : ℕ) : Type 0 where
+-- it is written to the store
+pub record IsOverlaying
+    (store : List ℕ)
+    (es : List Exception)
+    (block : ℕ)
+    (from : List ℕ)
+    (image : Image)
+    (s : ℕ)
+    (b : List ℕ) : Type 0 where
   pub inside : InFirst store (length store) s
-  pub which : IsOfOverlay store es block s
+  pub which : IsOfOverlay store es block from image s b

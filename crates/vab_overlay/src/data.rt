@@ -4,9 +4,9 @@ ghost use Rattle.std.specs.Prelude.{◌≡◌, ◌≢◌, ◌+◌, ◌/◌, ◌%
 ghost use Rattle.std.specs.Prelude.{OnOk};
 ghost use Rattle.std.specs.Prelude.{IfSome};
 ghost use Rattle.std.specs.Option.{ForSome};
-ghost use Rattle.vab_disk.specs.Calls.{InSectors, Touches, IsAtRest, FailsWithDisk};
+ghost use Rattle.vab_disk.specs.Calls.{Touches, IsAtRest, FailsWithDisk};
 ghost use Rattle.vab_store.specs.Layout.{chunk_bytes, IsOnDisk, IsApart};
-ghost use Rattle.vab_overlay.specs.Data.{next_page, IsOfSome, IsOfData};
+ghost use Rattle.vab_overlay.specs.Data.{next_page, IsZeroAt, IsDataAt};
 
 use vab_disk::Disk;
 use vab_gate::{DiskFault, settle};
@@ -36,7 +36,7 @@ fn zero_page<D: Disk>(d: &mut D, store: &Map, page: Option<u64>) -> Result<(), D
     ensures zeros { D.is_modelled → OnOk result
         (IfSome page (λ page.
         chunk_bytes store.now (D.seen d.new) page ≡ replicate 4096 0)) }
-    ensures touches { Touches D.Disk (InSectors (IsOfSome store.now page)) d.old d.new }
+    ensures touches { Touches D.Disk (IsZeroAt store.now page) d.old d.new }
     ensures faults { FailsWithDisk D.Disk d.old d.new result }
 {
     match page {
@@ -65,7 +65,7 @@ pub(crate) fn put_data<D: Disk>(
         (IfSome next (λ page.
         chunk_bytes store.now (D.seen d.new) page ≡ replicate 4096 0)) }
     ensures settled { D.is_modelled → OnOk result (IsAtRest D.Disk d.new) }
-    ensures touches { Touches D.Disk (InSectors (IsOfData store.now chunk next)) d.old d.new }
+    ensures touches { Touches D.Disk (IsDataAt store.now chunk from.now next) d.old d.new }
     ensures faults { FailsWithDisk D.Disk d.old d.new result }
 {
     write_at(d, store, chunk, from)?;

@@ -2,11 +2,11 @@
 
 ghost use Rattle.std.specs.Prelude.{◌≡◌, ◌+◌, ◌/◌, ◌%◌, ◌<◌, ◌≤◌, length, slice_index, OnOk};
 ghost use Rattle.vab_disk.specs.Disk.{Adds};
-ghost use Rattle.vab_disk.specs.Calls.{InSectors, Touches, IsAtRest, FailsWithDisk};
+ghost use Rattle.vab_disk.specs.Calls.{Touches, IsAtRest, FailsWithDisk};
 ghost use Rattle.vab_space.specs.declared.Chunk.TheVariants.{One};
 ghost use Rattle.vab_store.specs.Layout.{slots_of, IsOnDisk};
 ghost use Rattle.vab_store.specs.Sectors.{entry_sector};
-ghost use Rattle.vab_overlay.specs.Entry.{IsPut, WithEntry, LeavesEntry, IsOfEntry};
+ghost use Rattle.vab_overlay.specs.Entry.{IsPut, WithEntry, LeavesEntry, IsEntryAt};
 
 use vab_bytes::put_le64;
 use vab_disk::Disk;
@@ -60,7 +60,8 @@ pub(crate) fn gate_entry<D: Disk>(
         → IsAtRest D.Disk d.old
         → Adds D.moment D.outcomes d.old d.new
         (LeavesEntry store.now place exception (D.told d.old) (D.seen d.old)) }
-    ensures touches { Touches D.Disk (InSectors (IsOfEntry store.now place)) d.old d.new }
+    ensures touches { Touches D.Disk
+        (IsEntryAt store.now place exception (D.seen d.old)) d.old d.new }
     ensures faults { FailsWithDisk D.Disk d.old d.new result }
 {
     let at = entry_sector(store, place);

@@ -2,7 +2,7 @@
 
 ghost use Rattle.std.specs.Prelude.{◌≡◌, ℕ, ◌+◌, ◌<◌, ◌≤◌, length, OnOk, OnErr};
 ghost use Rattle.vab_disk.specs.Disk.{Adds};
-ghost use Rattle.vab_disk.specs.Calls.{InSectors, Touches, IsAtRest, FailsWithDisk};
+ghost use Rattle.vab_disk.specs.Calls.{Touches, IsAtRest, FailsWithDisk};
 ghost use Rattle.vab_space.specs.Space.{need_of};
 ghost use Rattle.vab_space.specs.declared.Chunk.TheVariants.{One};
 ghost use Rattle.vab_store.specs.Layout.{IsApart};
@@ -10,7 +10,7 @@ ghost use Rattle.vab_store.specs.Setting.{set_entry, IsLowestFree};
 ghost use Rattle.vab_store.specs.View.{Fits};
 ghost use Rattle.vab_overlay.specs.Faults.{TellsFull, CountsFaults, CallsNone};
 ghost use Rattle.vab_overlay.specs.Overlaid.{MayOverlay, IsOverlaid, IsEntered, IsWritten};
-ghost use Rattle.vab_overlay.specs.Overlaid.{LeavesOverlaid, IsOverlaySector};
+ghost use Rattle.vab_overlay.specs.Overlaid.{LeavesOverlaid, IsOverlaying};
 
 use crate::OverlayFault;
 use crate::data::{next_page, put_data};
@@ -51,7 +51,7 @@ fn write_entry<D: Disk>(
         → Adds D.moment D.outcomes d.old d.new
         (LeavesOverlaid store.now bound view.now block from.now (D.told d.old) (D.seen d.old)) }
     ensures touches { Touches D.Disk
-        (InSectors (IsOverlaySector store.now view.now block)) d.old d.new }
+        (IsOverlaying store.now view.now block from.now (D.seen d.old)) d.old d.new }
     ensures faults { FailsWithDisk D.Disk d.old d.new result }
 {
     let _blocks = store.len();
@@ -112,7 +112,7 @@ pub fn overlay_write<D: Disk>(
         (LeavesOverlaid store.now bound view.old block from.now (D.told d.old) (D.seen d.old)) }
     // It touches the store alone, and never the partition.
     ensures touches { Touches D.Disk
-        (InSectors (IsOverlaySector store.now view.old block)) d.old d.new }
+        (IsOverlaying store.now view.old block from.now (D.seen d.old)) d.old d.new }
     ensures unwritten { CallsNone d.old d.new result }
     ensures counts { CountsFaults D.Disk d.old d.new result }
 {

@@ -19,7 +19,7 @@ returns-clause-bytes g c = λ t.
     let written : chunk_bytes store mid chunk ≡ c.args.from.now =
     chunk_here store old mid chunk c.args.from.now long (c.in_ok-write_at.ensures.written t) in
     let but : SameBut (InSectors (InBlock store (IsThat next))) mid zeroed =
-    but_wider store (IsThat next) _ mid zeroed (λ s. some_in store next s c.requires.next)
+    but_wider store (IsThat next) _ mid zeroed (λ s x. some_in store next s x c.requires.next)
     (c.zero_page.ensures.touches.seen t) in
     let kept : chunk_bytes store zeroed chunk ≡ chunk_bytes store mid chunk =
     block_kept store (IsThat next) mid zeroed chunk (c.requires.apart t) but c.requires.chunk

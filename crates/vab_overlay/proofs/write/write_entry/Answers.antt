@@ -2,13 +2,13 @@ use Rattle.std.proofs.Common.{◌≡◌, ◌∙◌, ℕ, List, length, replicate
 use Rattle.std.specs.Prelude.{Option, IfSome}
 use Rattle.std.proofs.lemmas.Result.{on_ok_weaker}
 use Rattle.vab_disk.specs.Disk.{Adds}
-use Rattle.vab_disk.specs.Calls.{InSectors, Touches}
+use Rattle.vab_disk.specs.Calls.{Touches}
 use Rattle.vab_exceptions.specs.declared.area.Exception.{Exception}
 use Rattle.vab_store.specs.Layout.{chunk_bytes}
 use Rattle.vab_store.specs.Setting.{entry_place}
 use Rattle.vab_store.proofs.SettingLaws.{exception_of, place_most}
-use Rattle.vab_overlay.specs.Data.{next_page, IsOfData}
-use Rattle.vab_overlay.specs.Entry.{WithEntry, LeavesEntry, IsOfEntry}
+use Rattle.vab_overlay.specs.Data.{next_page, IsDataAt}
+use Rattle.vab_overlay.specs.Entry.{WithEntry, LeavesEntry, IsEntryAt}
 use Rattle.vab_overlay.proofs.StepLaws.{touches_data, touches_both, time_data, prepared_of}
 use Rattle.vab_overlay.proofs.StepLaws.{time_both}
 use Rattle.vab_overlay.proofs.WrittenLaws.{Prepared, written}
@@ -24,7 +24,8 @@ returns-in_err-put_data-clause-touches g c =
     touches_data g.D.Disk c.args.store.now es block c.args.chunk c.args.from.now c.args.d.now
     c.put_data.new.d c.requires.lowest c.requires.inside c.requires.room
     (subst (λ (o : Option ℕ). Touches g.D.Disk
-    (InSectors (IsOfData c.args.store.now c.args.chunk o)) c.args.d.now c.put_data.new.d) next_is
+    (IsDataAt c.args.store.now c.args.chunk c.args.from.now o) c.args.d.now c.put_data.new.d)
+    next_is
     c.put_data.ensures.touches)
     c.requires.may.bound c.requires.may.fits
 
@@ -38,7 +39,8 @@ returns-in_err-put_data-clause-time g c = λ t rest bound above overlaid.
     time_data g.D.Disk c.args.store.now es block c.args.chunk c.args.from.now c.args.d.now
     c.put_data.new.d c.requires.lowest c.requires.inside c.requires.room
     (subst (λ (o : Option ℕ). Touches g.D.Disk
-    (InSectors (IsOfData c.args.store.now c.args.chunk o)) c.args.d.now c.put_data.new.d) next_is
+    (IsDataAt c.args.store.now c.args.chunk c.args.from.now o) c.args.d.now c.put_data.new.d)
+    next_is
     c.put_data.ensures.touches)
     bound t (c.requires.apart t) rest overlaid
 
@@ -62,10 +64,13 @@ returns-clause-touches g c =
     touches_both g.D.Disk c.args.store.now es block c.args.chunk c.args.from.now c.args.d.now
     c.put_data.new.d c.requires.lowest c.requires.inside c.requires.room
     (subst (λ (o : Option ℕ). Touches g.D.Disk
-    (InSectors (IsOfData c.args.store.now c.args.chunk o)) c.args.d.now c.put_data.new.d) next_is
+    (IsDataAt c.args.store.now c.args.chunk c.args.from.now o) c.args.d.now c.put_data.new.d)
+    next_is
     c.put_data.ensures.touches)
-    c.requires.may.bound c.gate_entry.new.d c.requires.may.fits
-    (subst (λ (p : ℕ). Touches g.D.Disk (InSectors (IsOfEntry c.args.store.now p))
+    c.requires.may.bound c.gate_entry.new.d c.requires.may.fits c.requires.apart
+    (subst (λ (p : ℕ). Touches g.D.Disk
+    (IsEntryAt c.args.store.now p (exception_of block c.args.chunk)
+    (g.D.Disk.seen c.put_data.new.d))
     c.put_data.new.d c.gate_entry.new.d) c.place_of-place.ensures c.gate_entry.ensures.touches)
 
 pub returns-clause-time : goal.returns-clause-time
@@ -79,9 +84,10 @@ returns-clause-time g c = λ t rest bound above overlaid.
     c.next_page.ensures ∙ ap (λ n. next_page n c.place_of-place.result) c.count.ensures
     ∙ ap (next_page (length es)) c.place_of-place.ensures in
     let data_touches : Touches g.D.Disk
-    (InSectors (IsOfData store chunk (next_page (length es) (entry_place es block))))
+    (IsDataAt store chunk c.args.from.now (next_page (length es) (entry_place es block)))
     c.args.d.now mid =
-    subst (λ (o : Option ℕ). Touches g.D.Disk (InSectors (IsOfData store chunk o)) c.args.d.now mid)
+    subst (λ (o : Option ℕ). Touches g.D.Disk (IsDataAt store chunk c.args.from.now o) c.args.d.now
+    mid)
     next_is c.put_data.ensures.touches in
     let ready : Prepared store bound es block chunk c.args.from.now (g.D.Disk.seen c.args.d.now)
     (g.D.Disk.seen mid) =
@@ -111,9 +117,10 @@ returns-clause-written g c = λ t.
     c.next_page.ensures ∙ ap (λ n. next_page n c.place_of-place.result) c.count.ensures
     ∙ ap (next_page (length es)) c.place_of-place.ensures in
     let data_touches : Touches g.D.Disk
-    (InSectors (IsOfData store chunk (next_page (length es) (entry_place es block))))
+    (IsDataAt store chunk c.args.from.now (next_page (length es) (entry_place es block)))
     c.args.d.now mid =
-    subst (λ (o : Option ℕ). Touches g.D.Disk (InSectors (IsOfData store chunk o)) c.args.d.now mid)
+    subst (λ (o : Option ℕ). Touches g.D.Disk (IsDataAt store chunk c.args.from.now o) c.args.d.now
+    mid)
     next_is c.put_data.ensures.touches in
     on_ok_weaker c.gate_entry.result
     (λ put bound above overlaid.
