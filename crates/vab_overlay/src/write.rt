@@ -65,16 +65,16 @@ fn write_entry<D: Disk>(
 }
 
 /// Writes a block of a partition into its exception store, whose chunks are of one block, to be
-/// read in place of the partition's own. These are all exceptions of the store, and the page in
-/// which they end has no further one.
+/// read in place of the partition's own. The view has the store's exceptions, and behind them the
+/// page in which they end has no other one.
 ///
 /// The bytes go to the lowest data chunk that no exception has, also where the block has one
-/// already, so that what it holds stays until the new entry stands. Where that entry is a new one
-/// and fills its page, the next page is zeroed too. Then it syncs, writes the entry in its sector,
-/// and syncs.
+/// already, so that what it reads as stays until the new entry stands. Where that entry is a new
+/// one and fills its page, the next page is zeroed too. Then it syncs, writes the entry in its
+/// sector, and syncs.
 ///
 /// The store is full where it has fewer blocks than one exception more would need, whether the
-/// block has one or not. After a fault the view is the old one: the store may have the exception by
+/// block has one or not. After a fault the view is the old one: the store may have the new entry by
 /// then, so it has to be scanned again.
 pub fn overlay_write<D: Disk>(
     d: &mut D,
