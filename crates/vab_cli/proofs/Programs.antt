@@ -1,6 +1,6 @@
 -- What the verbs do, by what their functions do.
 use Rattle.std.proofs.Common.{◌≡◌, ◌⊎◌, inl, inr, ⊎_elim, ℕ, List, [], ◌∷◌, zero, suc, drop, false}
-use Rattle.std.proofs.Common.{Some, refl}
+use Rattle.std.proofs.Common.{Some, None, refl}
 use Rattle.vab_disk.specs.declared.disk.Disk.{Ghosts}
 use Rattle.vab_disk.specs.Disk.{Outcome, DiskFailed, SinkFailed, SourceFailed}
 use Rattle.vab_disk.specs.Calls.{IsAtRest}
