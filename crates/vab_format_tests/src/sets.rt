@@ -85,6 +85,17 @@ fn each_fault_is_the_first_from_the_left(rt: HostRuntime) -> Result<(), Fail> {
     Ok(())
 }
 
+// An image of 4096 bytes fits, of which three are there; one of 4097 is told before they are missed.
+#[test]
+fn an_image_is_no_longer_than_its_partition(rt: HostRuntime) -> Result<(), Fail> {
+    for (low, want) in [(0, SetFault::Cut(0)), (1, SetFault::TooBig(0))] {
+        let mut set = changed(30, low);
+        set[31] = 16;
+        assert!(rt; fault_of(rt.alloc(), &set) == Some(want), "4096 and {low}");
+    }
+    Ok(())
+}
+
 // A name of 31 bytes `x` that is there as a whole, and one of nine bytes that ends behind four.
 #[test]
 fn names_that_are_too_long_or_cut_off_are_refused(rt: HostRuntime) -> Result<(), Fail> {
