@@ -87,3 +87,23 @@ fn an_empty_packet_is_no_command(rt: HostRuntime) -> Result<(), Fail> {
     assert!(rt; told.as_slice() == b"FB01\0\0\0\0\0\0\0\x13FAILunknown command".as_slice());
     Ok(())
 }
+
+#[test]
+fn a_packet_has_at_most_4096_bytes(rt: HostRuntime) -> Result<(), Fail> {
+    let alloc = rt.alloc();
+    let unknown = b"FB01\0\0\0\0\0\0\0\x13FAILunknown command".as_slice();
+    for (count, ended, told) in [
+        (4096u64, Ok(Ended::Closed), unknown),
+        (4097, Err(SessionFault::TooLong(4097)), b"FB01"),
+    ] {
+        let mut input = b"FB01".to_vec(alloc)?;
+        input.extend_from_slice(&count.to_be_bytes())?;
+        for _byte in 0..count {
+            input.push(b'x')?;
+        }
+        let (now, tells) = session(alloc, &input, 5000)?;
+        assert_eq!(rt; now, ended, "{count} bytes");
+        assert!(rt; tells.as_slice() == told, "{count} bytes");
+    }
+    Ok(())
+}
