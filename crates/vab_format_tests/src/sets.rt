@@ -85,7 +85,7 @@ fn each_fault_is_the_first_from_the_left(rt: HostRuntime) -> Result<(), Fail> {
     Ok(())
 }
 
-// An image of 4096 bytes fits, of which three are there; one of 4097 is told before they are missed.
+// Of an image of 4096 bytes three are there; one of 4097 is refused before any is missed.
 #[test]
 fn an_image_is_no_longer_than_its_partition(rt: HostRuntime) -> Result<(), Fail> {
     for (low, want) in [(0, SetFault::Cut(0)), (1, SetFault::TooBig(0))] {
