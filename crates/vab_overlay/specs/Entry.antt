@@ -30,8 +30,12 @@ pub record LeavesEntry
   pub either : (o.image ≡ old) ⊎ WithEntry store place e old o.image
 
 -- the sector of that entry, with it
-pub record IsEntryAt (store : List ℕ) (place : ℕ) (e : Exception) (image : Image) (s : ℕ)
-    (b : List ℕ)
-    : Type 0 where
+pub record IsEntryAt
+    (store : List ℕ)
+    (place : ℕ)
+    (e : Exception)
+    (image : Image)
+    (s : ℕ)
+    (b : List ℕ) : Type 0 where
   pub here : s ≡ entry_sector One store place
   pub put : IsPut (place % sector_entries) e (image s) b

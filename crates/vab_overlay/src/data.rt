@@ -1,8 +1,7 @@
 //! The data of a block that is written into a store.
 
 ghost use Rattle.std.specs.Prelude.{◌≡◌, ◌≢◌, ◌+◌, ◌/◌, ◌%◌, ◌<◌, ◌≤◌, ◌^◌, length, replicate};
-ghost use Rattle.std.specs.Prelude.{OnOk};
-ghost use Rattle.std.specs.Prelude.{IfSome};
+ghost use Rattle.std.specs.Prelude.{OnOk, IfSome};
 ghost use Rattle.std.specs.Option.{ForSome};
 ghost use Rattle.vab_disk.specs.Calls.{Touches, IsAtRest, FailsWithDisk};
 ghost use Rattle.vab_store.specs.Layout.{chunk_bytes, IsOnDisk, IsApart};

@@ -1,8 +1,11 @@
-//! Tests of exception stores: written, scanned, read through and merged on a disk in memory.
+//! Tests of exception stores: written, scanned, read through, overlaid and merged on a disk in
+//! memory.
 #![tactic(auto)]
 
 #[cfg(test)]
 mod cuts;
+#[cfg(test)]
+mod overlay;
 #[cfg(test)]
 mod pair;
 #[cfg(test)]

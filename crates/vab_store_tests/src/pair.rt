@@ -129,8 +129,14 @@ impl Pair {
         scan(alloc, d, &self.store, self.blocks, self.chunk).err()
     }
 
-    // Whether a block that is read through the store holds these bytes.
-    fn reads(&self, d: &mut MemPort, view: &StoreView, block: u64, wanted: &[u8; 4096]) -> bool
+    /// Whether a block that is read through the store holds these bytes.
+    pub(crate) fn reads(
+        &self,
+        d: &mut MemPort,
+        view: &StoreView,
+        block: u64,
+        wanted: &[u8; 4096],
+    ) -> bool
         requires { Fits self.now.chunk self.now.blocks self.now.store view.now }
     {
         if !self.lies_on(d) || block >= self.blocks {
