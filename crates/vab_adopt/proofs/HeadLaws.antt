@@ -17,11 +17,11 @@ use Rattle.vab_device.specs.Mounted.{Mounted}
 use Rattle.vab_device.specs.Phases.{phase_at}
 use Rattle.vab_device.specs.Reading.{Read, mark_read, mark_in, statuses_at, geometry_at, device}
 use Rattle.vab_device.specs.Reading.{stores_of, kept, Reads, SameRead}
-use Rattle.vab_device.proofs.Behind.{images_behind, stores_behind, plan_behind}
+use Rattle.vab_device.proofs.Behind.{images_behind, stores_behind, plan_behind, overlay_behind}
 use Rattle.vab_device.proofs.OpeningLaws.{control_seen_in, device_small}
 use Rattle.vab_device.proofs.ReadingLaws.{DeviceWas, device_was, device_same}
 use Rattle.vab_device.proofs.SameLaws.{geometry_same, images_same}
-use Rattle.vab_device.proofs.StoreLaws.{statuses_kept, stores_kept, plan_kept}
+use Rattle.vab_device.proofs.StoreLaws.{statuses_kept, stores_kept, plan_kept, overlay_kept}
 use Rattle.vab_recover.specs.Behind.{SameSuper}
 use Rattle.vab_recover.specs.Opened.{IsMarked, IsHeaded}
 use Rattle.vab_recover.proofs.BehindLaws.{tables_as}
@@ -121,6 +121,8 @@ module _
             (λ s there. super s (images_behind size 4096 1 _ _ r one s reads within there));
         plan = plan_kept (kept r).plan one other
             (λ s there. super s (plan_behind size 4096 r one s reads within there));
+        overlay = overlay_kept (kept r).overlay one other
+            (λ s there. super s (overlay_behind size 4096 r one s reads within there));
       }
 
 -- they mean the same

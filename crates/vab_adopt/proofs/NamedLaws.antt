@@ -6,6 +6,7 @@ use Rattle.std.proofs.lemmas.Bool.{cases_eq, cases_lt}
 use Rattle.vab_disk.specs.Disk.{Image, IsSector}
 use Rattle.vab_bootctl.specs.declared.slots.Control.{Control}
 use Rattle.vab_marks.specs.declared.mark.UpdateMark.{UpdateMark}
+use Rattle.vab_marks.specs.declared.status.PartStatus.{PartStatus}
 use Rattle.vab_marks.specs.Mark.{idle_mark}
 use Rattle.vab_geometry.specs.declared.geometry.Geometry.{Geometry}
 use Rattle.vab_geometry.specs.declared.geometry.GeometryFault.{GeometryFault}
@@ -181,8 +182,15 @@ module _ (size slot : ℕ) where
   scanned_comes image r is =
       go (stores_of r)
       (ap (λ (m : UpdateMark).
-      (phase_at m).stores r.tables (written_in r.statuses)) is.mark)
+      (phase_at m).stores r.tables (written_in r.statuses)) is.mark
+      ∙ none_read r.tables (written_in r.statuses))
     where
+      -- no slot is overlaid
+      none_read : (ts : List Table) (sts : List PartStatus)
+          → (idle (idle_mark slot)).stores ts sts ≡ []
+      none_read [] sts = refl
+      none_read (t ∷ ts) sts = refl
+
       go : (ws : List (Result Wanted StartFault))
           → ws ≡ []
           → Comes (IsOfSuper slot) IsHeadRead

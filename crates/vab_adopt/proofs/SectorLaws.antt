@@ -198,7 +198,7 @@ pub mark_there : (slot : ℕ)
 mark_there slot below =
     only_mark Two (idle_mark slot)
     (crc_fits (mark_front Two (idle_mark slot)) (front_bytes slot below))
-    (record { slot = below; apart = refl })
+    (record { slot = below; flags = (refl, refl) })
 
 -- ---- how long they are
 

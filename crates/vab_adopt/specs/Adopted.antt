@@ -1,6 +1,6 @@
 -- The device that a disk is, once it has the heads of a device without an update.
 use Rattle.std.specs.Prelude.{◌≡◌, ◌≢◌, ℕ, ◌/◌, ◌==◌, if◌then◌else◌, List, [], length, take, sum_by}
-use Rattle.std.specs.Prelude.{true, false, Option, Some, None, Result, Ok, Err}
+use Rattle.std.specs.Prelude.{true, Option, Some, None, Result, Ok, Err}
 use Rattle.std.specs.Int.{w32, to_le_bytes}
 use Rattle.vab_bytes.specs.Number.{put_at}
 use Rattle.vab_bytes.specs.Crc.{crc_of}

@@ -31,6 +31,7 @@ pub(crate) fn idle_mark(slot: usize) -> UpdateMark
         phase: MarkPhase::Idle,
         slot,
         apart: false,
+        overlaid: false,
     }
 }
 

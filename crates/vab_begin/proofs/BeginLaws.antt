@@ -11,7 +11,7 @@ use Rattle.vab_bootctl.specs.Control.{control_of}
 use Rattle.vab_marks.specs.declared.mark.MarkPhase.TheVariants as marks
 use Rattle.vab_marks.specs.declared.mark.UpdateMark.{UpdateMark}
 use Rattle.vab_marks.specs.declared.status.PartStatus.{PartStatus}
-use Rattle.vab_marks.specs.Mark.{mark_of, mark_spelling, rephased, resloted, begun}
+use Rattle.vab_marks.specs.Mark.{mark_of, mark_spelling, rephased, resloted, begun, FlagsFit}
 use Rattle.vab_statuses.specs.Statuses.{statuses_in, no_statuses, IsOfStatuses}
 use Rattle.vab_statuses.proofs.StatusesLaws.{statuses_same}
 use Rattle.vab_geometry.specs.declared.geometry.Geometry.{Geometry}
@@ -206,6 +206,7 @@ module _
     images_a = images_a;
     images_b = images_b;
     plan = refl;
+    overlay = refl;
   }
 
   -- ---- with the mark
@@ -345,10 +346,14 @@ module _
     unfolding no_statuses
     no_stores = refl
 
+    begun_fits : (b : Bool) → FlagsFit (begun b (resloted slot base))
+    begun_fits true = (refl, refl)
+    begun_fits false = (refl, refl)
+
     pub reads_new : Reads size after new
     reads_new = record {
       enough = reads.enough;
-      mark = mark_there (begun apart (resloted slot base)) new refl refl read
+      mark = mark_there (begun apart (resloted slot base)) new refl (begun_fits apart) read
           (set_here mid 2048 (mark_spelling (begun apart (resloted slot base))) 2048
           refl);
       statuses = statuses_new;

@@ -1,5 +1,5 @@
 -- A begin: its dead writes, and its step.
-use Rattle.std.proofs.Common.{◌≡◌, ◌≢◌, ◌∙◌, inl, inr, ℕ, zero, suc, ◌≤◌, ◌<◌, List}
+use Rattle.std.proofs.Common.{◌≡◌, ◌≢◌, ◌∙◌, inl, inr, ℕ, zero, suc, ◌≤◌, ◌<◌, List, is_some}
 use Rattle.std.proofs.Common.{[], ◌∷◌, length, Ok, refl, sym, ap, subst, arith}
 use Rattle.std.specs.Prelude.{Bool, true, false, Option, Some, None, ◌==◌, map, nat_le}
 use Rattle.std.specs.Prelude.{if◌then◌else◌}
@@ -12,7 +12,7 @@ use Rattle.vab_marks.specs.declared.mark.MarkPhase.{MarkPhase}
 use Rattle.vab_marks.specs.declared.mark.MarkPhase.TheVariants as marks
 use Rattle.vab_marks.specs.declared.mark.UpdateMark.{UpdateMark}
 use Rattle.vab_marks.specs.declared.status.PartStatus.{PartStatus}
-use Rattle.vab_marks.specs.Mark.{mark_of, mark_spelling, rephased, resloted, begun}
+use Rattle.vab_marks.specs.Mark.{mark_of, mark_spelling, rephased, resloted, begun, FlagsFit}
 use Rattle.vab_statuses.specs.Statuses.{no_statuses}
 use Rattle.vab_geometry.specs.declared.geometry.Geometry.{Geometry}
 use Rattle.vab_tables.specs.declared.table.Table.{Table}
@@ -29,13 +29,13 @@ use Rattle.vab_builder.specs.Edits.{fitting}
 use Rattle.vab_install.specs.Control.{cleared_of, no_info}
 use Rattle.vab_model.specs.declared.command.Reply.TheVariants as replies
 use Rattle.vab_model.specs.declared.command.Refusal.TheVariants as refusals
-use Rattle.vab_model.specs.Effects.{does, refuses, wanting, unless_refused}
+use Rattle.vab_model.specs.Effects.{does, refuses, wanting, unless_refused, if_plain, Effect}
 use Rattle.vab_device.specs.declared.device.Part.{Part}
 use Rattle.vab_device.specs.declared.device.Device.{Device}
 use Rattle.vab_device.specs.Idle.{control_read_of}
-use Rattle.vab_device.specs.Kept.{IsDevice, IsTableOf, IsKeptTable, IsUpdate, lies_in}
+use Rattle.vab_device.specs.Kept.{IsDevice, IsTableOf, IsKeptTable, IsUpdate, lies_in, IsOverlay}
 use Rattle.vab_device.specs.Kept.{table_of_slot, HasNoStores}
-use Rattle.vab_device.specs.Mounted.{Mounted, mounted_on, state_on, images_on, image_on}
+use Rattle.vab_device.specs.Mounted.{Mounted, mounted_on, state_on, images_on, image_on, overlay_on}
 use Rattle.vab_device.specs.Phases.{phase_in, phase_at, plan_of}
 use Rattle.vab_device.specs.Reading.{Read, tables_in, table_at, Reads, AgreeCopies}
 use Rattle.vab_device.specs.Reading.{Represents, Dead}
@@ -49,8 +49,8 @@ use Rattle.vab_begin.specs.Writes.{begin_of, IsOfPlaces}
 use Rattle.vab_device.proofs.DoesLaws.{step_follows}
 use Rattle.vab_device.proofs.Steps.{marked, IsStep}
 use Rattle.vab_begin.proofs.KeptLaws.{update_kept}
-use Rattle.vab_device.proofs.MarkLaws.{rephased_again}
-use Rattle.vab_device.proofs.ReadingLaws.{apart_known}
+use Rattle.vab_device.proofs.MarkLaws.{rephased_again, as_idle}
+use Rattle.vab_device.proofs.ReadingLaws.{flags_known}
 use Rattle.vab_device.proofs.PhaseCases.{some_of, none_of, cases_slot, unplanned_of}
 use Rattle.vab_begin.proofs.KeptLaws.{current_of, source_a, source_b, no_target_a, no_target_b}
 use Rattle.vab_device.specs.Kept.{has_both}
@@ -63,6 +63,8 @@ use Rattle.vab_begin.proofs.BeginLaws.{idle_shape, IsPrepared, same_read}
 use Rattle.vab_begin.proofs.BeginLaws.{reads_new}
 use Rattle.vab_begin.proofs.BeginLaws.{copies_new, control_new, images_new_a, images_new_b}
 use Rattle.vab_begin.proofs.BeginLaws.{version_new}
+use Rattle.vab_device.proofs.OverlayLaws.{plain_none}
+use Rattle.vab_model.specs.declared.state.Overlay.{Overlay}
 
 -- the device with an update to a target of this table, which stands apart or not
 abbrev pub begun_device : (apart : Bool) → Device → Table → Device
@@ -75,34 +77,51 @@ begun_device apart d u =
 
 -- the row of a begin
 begins : (m : Mounted) (staged : Option (List ℕ)) (apart : Bool)
-    → effect_on m staged (begin_of apart) ≡ begin_effect m apart m.state.phase
+    → effect_on m staged (begin_of apart)
+    ≡ if_plain m.state.overlay (begin_effect m apart m.state.phase)
 begins m staged true = refl
 begins m staged false = refl
+
+-- it is refused over an overlay, as where there is an update
+plain_refused : (o : Option Overlay) (next : Effect Mounted)
+    → next ≡ refuses refusals.NotIdle
+    → if_plain o next ≡ refuses refusals.NotIdle
+plain_refused None next is = is
+plain_refused (Some o) next is = refl
+
+over_refused : (o : Option Overlay) (next : Effect Mounted)
+    → is_some o ≡ true
+    → if_plain o next ≡ refuses refusals.NotIdle
+over_refused None next some = absurd cc
+over_refused (Some o) next some = refl
 
 begun_a : (apart : Bool) (d : Device) (old new : Image) (a : List Part) (u : Table)
     → d.mark.slot ≡ 0
     → d.a ≡ Some a
     → d.b ≡ None
+    → d.overlay ≡ None
     → map (image_on new) a ≡ map (image_on old) a
     → mounted_on (begun_device apart d u) new
     ≡ installing_with (mounted_on d old) d.mark.slot (no_entries apart) (layout_of u)
 unfolding state_on cleared_of
-begun_a apart d old new a u slot some none same =
-    rw (plan_same new (other_slot d.mark.slot) (layout_of u), slot, some, none, same) refl
+begun_a apart d old new a u slot some none plain same =
+    rw (plan_same new (other_slot d.mark.slot) (layout_of u), slot, some, none, plain, same) refl
 
 begun_b : (apart : Bool) (d : Device) (old new : Image) (b : List Part) (u : Table)
     → d.mark.slot ≡ 1
     → d.a ≡ None
     → d.b ≡ Some b
+    → d.overlay ≡ None
     → map (image_on new) b ≡ map (image_on old) b
     → mounted_on (begun_device apart d u) new
     ≡ installing_with (mounted_on d old) d.mark.slot (no_entries apart) (layout_of u)
 unfolding state_on cleared_of
-begun_b apart d old new b u slot none some same =
-    rw (plan_same new (other_slot d.mark.slot) (layout_of u), slot, some, none, same) refl
+begun_b apart d old new b u slot none some plain same =
+    rw (plan_same new (other_slot d.mark.slot) (layout_of u), slot, some, none, plain, same) refl
 
 begins_a : (apart : Bool) (d : Device) (old : Image) (staged : Option (List ℕ)) (a : List Part)
     (s : Table)
+    → d.overlay ≡ None
     → d.plan ≡ None
     → d.mark.phase ≡ marks.Idle
     → d.mark.slot ≡ 0
@@ -113,12 +132,13 @@ begins_a : (apart : Bool) (d : Device) (old : Image) (staged : Option (List ℕ)
     ≡ table_effect (mounted_on d old) d.mark.slot (no_entries apart)
     (fitting d.geometry.max (imported_by apart d.mark.slot (plain d.mark.slot (layout_of s))))
 unfolding state_on
-begins_a apart d old staged a s plan phase slot current some table =
+begins_a apart d old staged a s plain plan phase slot current some table =
     begins (mounted_on d old) staged apart
-    ∙ rw (plan, phase, slot, current, some, table) refl
+    ∙ rw (plain, plan, phase, slot, current, some, table) refl
 
 begins_b : (apart : Bool) (d : Device) (old : Image) (staged : Option (List ℕ)) (b : List Part)
     (s : Table)
+    → d.overlay ≡ None
     → d.plan ≡ None
     → d.mark.phase ≡ marks.Idle
     → d.mark.slot ≡ 1
@@ -129,9 +149,9 @@ begins_b : (apart : Bool) (d : Device) (old : Image) (staged : Option (List ℕ)
     ≡ table_effect (mounted_on d old) d.mark.slot (no_entries apart)
     (fitting d.geometry.max (imported_by apart d.mark.slot (plain d.mark.slot (layout_of s))))
 unfolding state_on
-begins_b apart d old staged b s plan phase slot current some table =
+begins_b apart d old staged b s plain plan phase slot current some table =
     begins (mounted_on d old) staged apart
-    ∙ rw (plan, phase, slot, current, some, table) refl
+    ∙ rw (plain, plan, phase, slot, current, some, table) refl
 
 -- the table of a slot, where the slot is known
 slot_at : (n k : ℕ) (a b x : Option Table)
@@ -145,11 +165,13 @@ pub begin_is : (apart : Bool) (d : Device) (size : ℕ) (old : Image) (staged : 
     (s : Table)
     → IsDevice d size
     → d.mark.phase ≡ marks.Idle
+    → d.mark.overlaid ≡ false
     → table_of_slot d d.mark.slot ≡ Some s
     → effect_on (mounted_on d old) staged (begin_of apart)
     ≡ table_effect (mounted_on d old) d.mark.slot (no_entries apart)
     (layout_for apart d.geometry.max d.mark.slot s)
-begin_is apart d size old staged s dev idle is =
+begin_is apart d size old staged s dev idle bare is =
+    let none = plain_none d size dev bare in
     let plan = unplanned_of d size marks.Idle dev refl idle in
     let current = current_of d size dev (ap has_both idle) in
     let plainly : effect_on (mounted_on d old) staged (begin_of apart)
@@ -158,11 +180,11 @@ begin_is apart d size old staged s dev idle is =
     elim (cases_slot d.mark.slot dev.slot) [
       | inl first ↦
           let a = some_of d.a (source_a d size dev first) in
-          begins_a apart d old staged a.0 s plan idle first (current ∙ first) a.1
+          begins_a apart d old staged a.0 s none plan idle first (current ∙ first) a.1
           (slot_at d.mark.slot 0 d.table_a d.table_b (Some s) first is)
       | inr one ↦
           let b = some_of d.b (source_b d size dev one) in
-          begins_b apart d old staged b.0 s plan idle one (current ∙ one) b.1
+          begins_b apart d old staged b.0 s none plan idle one (current ∙ one) b.1
           (slot_at d.mark.slot 1 d.table_a d.table_b (Some s) one is)
     ] in
     plainly
@@ -176,12 +198,13 @@ begin_gives : (apart : Bool) (d : Device) (size : ℕ) (old : Image) (staged : O
     (x : Target)
     → IsDevice d size
     → d.mark.phase ≡ marks.Idle
+    → d.mark.overlaid ≡ false
     → IsTargetFor apart d x
     → effect_on (mounted_on d old) staged (begin_of apart)
     ≡ wanting true
     (does replies.Done
     (installing_with (mounted_on d old) d.mark.slot (no_entries apart) (layout_of x.table)))
-begin_gives apart d size old staged x dev idle for =
+begin_gives apart d size old staged x dev idle plain for =
     let of = for.target in
     let gives : layout_for apart d.geometry.max d.mark.slot for.source
     ≡ Ok (layout_of x.table) =
@@ -190,7 +213,7 @@ begin_gives apart d size old staged x dev idle for =
     (fitting_same d.geometry.max (imported_by apart d.mark.slot (layout_of for.source))
     of.gives.0
     of.gives.1) ∙ sym of.layout) in
-    begin_is apart d size old staged for.source dev idle for.is
+    begin_is apart d size old staged for.source dev idle plain for.is
     ∙ ap (table_effect (mounted_on d old) d.mark.slot (no_entries apart)) gives
 
 -- it has a device behind it
@@ -198,17 +221,21 @@ pub begin_follows : (apart : Bool) (d : Device) (size : ℕ) (old : Image)
     (staged : Option (List ℕ)) (x : Target)
     → IsDevice d size
     → d.mark.phase ≡ marks.Idle
+    → d.mark.overlaid ≡ false
     → IsTargetFor apart d x
     → (effect_on (mounted_on d old) staged (begin_of apart)).later ≢ []
-begin_follows apart d size old staged x dev idle for =
-    step_follows (begin_gives apart d size old staged x dev idle for)
+begin_follows apart d size old staged x dev idle plain for =
+    step_follows (begin_gives apart d size old staged x dev idle plain for)
 
 pub begin_refused : (apart : Bool) (d : Device) (old : Image) (staged : Option (List ℕ))
     (plan : List Part)
     → d.plan ≡ Some plan
     → effect_on (mounted_on d old) staged (begin_of apart) ≡ refuses refusals.NotIdle
 unfolding state_on
-begin_refused apart d old staged plan is = begins (mounted_on d old) staged apart ∙ rw is refl
+begin_refused apart d old staged plan is =
+    begins (mounted_on d old) staged apart
+    ∙ plain_refused (overlay_on old d.overlay)
+    (begin_effect (mounted_on d old) apart (state_on d old).phase) (rw is refl)
 
 pub begin_staged : (apart : Bool) (d : Device) (old : Image) (staged : Option (List ℕ))
     → d.plan ≡ None
@@ -216,7 +243,9 @@ pub begin_staged : (apart : Bool) (d : Device) (old : Image) (staged : Option (L
     → effect_on (mounted_on d old) staged (begin_of apart) ≡ refuses refusals.NotIdle
 unfolding state_on
 begin_staged apart d old staged plan phase =
-    begins (mounted_on d old) staged apart ∙ rw (plan, phase) refl
+    begins (mounted_on d old) staged apart
+    ∙ plain_refused (overlay_on old d.overlay)
+    (begin_effect (mounted_on d old) apart (state_on d old).phase) (rw (plan, phase) refl)
 
 pub begin_merging : (apart : Bool) (d : Device) (old : Image) (staged : Option (List ℕ))
     → d.plan ≡ None
@@ -224,7 +253,24 @@ pub begin_merging : (apart : Bool) (d : Device) (old : Image) (staged : Option (
     → effect_on (mounted_on d old) staged (begin_of apart) ≡ refuses refusals.NotIdle
 unfolding state_on
 begin_merging apart d old staged plan phase =
-    begins (mounted_on d old) staged apart ∙ rw (plan, phase) refl
+    begins (mounted_on d old) staged apart
+    ∙ plain_refused (overlay_on old d.overlay)
+    (begin_effect (mounted_on d old) apart (state_on d old).phase) (rw (plan, phase) refl)
+
+over_some : (image : Image) (o : Option Part) → is_some (overlay_on image o) ≡ is_some o
+over_some image None = refl
+over_some image (Some p) = refl
+
+pub begin_over : (apart : Bool) (d : Device) (size : ℕ) (old : Image) (staged : Option (List ℕ))
+    → IsDevice d size
+    → d.mark.overlaid ≡ true
+    → effect_on (mounted_on d old) staged (begin_of apart) ≡ refuses refusals.NotIdle
+unfolding state_on
+begin_over apart d size old staged dev overlaid =
+    begins (mounted_on d old) staged apart
+    ∙ over_refused (overlay_on old d.overlay)
+    (begin_effect (mounted_on d old) apart (state_on d old).phase)
+    (over_some old d.overlay ∙ dev.overlaid ∙ overlaid)
 
 -- ---- why there is no target
 
@@ -324,12 +370,17 @@ target_no_stores apart d size x dev for =
     (imported_no_stores apart d.mark.slot (layout_of for.source) dev.slot
     (source_rules d size for.source dev for.is).own)
 
+begun_flags : (apart : Bool) (m : UpdateMark) → FlagsFit (begun apart m)
+begun_flags true m = (refl, refl)
+begun_flags false m = (refl, refl)
+
 pub begun_kept : (apart : Bool) (d : Device) (size : ℕ) (x : Target)
     → IsDevice d size
     → d.mark.phase ≡ marks.Idle
+    → d.mark.overlaid ≡ false
     → IsTargetFor apart d x
     → IsDevice (begun_device apart d x.table) size
-begun_kept apart d size x dev idle for =
+begun_kept apart d size x dev idle plain for =
     let g = d.geometry in
     let s = for.source in
     let of = for.target in
@@ -344,7 +395,7 @@ begun_kept apart d size x dev idle for =
     (Some x.table) (Some (plan_of (other_slot d.mark.slot) (layout_of x.table) [])) dev
     (cleared_fits d.control (other_slot d.mark.slot) dev.control)
     (cleared_current d.control (other_slot d.mark.slot) ∙ current_of d size dev (ap has_both idle))
-    (inr (inl refl)) refl (ap has_both idle) refl
+    (inr (inl refl)) (begun_flags apart d.mark) plain (ap has_both idle) refl
     (record {
       rules = of.rules;
       small = omega (arith, of.size, dev.geometry.most);
@@ -474,6 +525,7 @@ module _ (told : Type 0) (apart : Bool) (text : List ℕ) (size : ℕ) (old : Im
       (dev : IsDevice d size)
       (is : Represents d size old)
       (idle : d.mark.phase ≡ marks.Idle)
+      (plain : d.mark.overlaid ≡ false)
       (short : length text ≤ d.geometry.max) where
     abbrev r : Read
     r = is.read
@@ -490,8 +542,8 @@ module _ (told : Type 0) (apart : Bool) (text : List ℕ) (size : ℕ) (old : Im
 
     phased : is.read.mark ≡ rephased marks.Idle is.read.mark
     phased =
-        sym (rephased_again is.read.mark (apart_known old is.read.mark is.reads.mark))
-        ∙ ap (λ (p : MarkPhase). rephased p is.read.mark) phase
+        as_idle is.read.mark (flags_known old is.read.mark is.reads.mark)
+        (sym (ap (λ (k : Device). k.mark.overlaid) is.is) ∙ plain) phase
 
     abbrev shaped : Read
     shaped = idle_shape r.mark r.mark.slot r.statuses r.control r.geometry one.0 r.scanned
@@ -540,12 +592,12 @@ module _ (told : Type 0) (apart : Bool) (text : List ℕ) (size : ℕ) (old : Im
         | inl first ↦
             let a = some_of d.a (source_a d size dev first) in
             let b = none_of d.b (no_target_b d size dev (ap has_both idle) first) in
-            begun_a apart d old new a.0 x.table first a.1 b
+            begun_a apart d old new a.0 x.table first a.1 b (plain_none d size dev plain)
             (some_same a.0 old new d.a a.1 next.images_a)
         | inr last ↦
             let a = none_of d.a (no_target_a d size dev (ap has_both idle) last) in
             let b = some_of d.b (source_b d size dev last) in
-            begun_b apart d old new b.0 x.table last a b.1
+            begun_b apart d old new b.0 x.table last a b.1 (plain_none d size dev plain)
             (some_same b.0 old new d.b b.1 next.images_b)
       ]
 
@@ -555,6 +607,6 @@ module _ (told : Type 0) (apart : Bool) (text : List ℕ) (size : ℕ) (old : Im
       begin_step staged = record {
         represents = next.represents;
         effect =
-            begin_gives apart d size old staged x dev idle for
+            begin_gives apart d size old staged x dev idle plain for
             ∙ ap (λ (m : Mounted). wanting true (does replies.Done m)) (sym means);
       }

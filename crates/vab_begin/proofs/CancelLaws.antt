@@ -48,6 +48,8 @@ use Rattle.vab_marks.specs.declared.version.MarkVersion.TheVariants.{Two}
 use Rattle.vab_device.specs.Reading.{version_at, most_at}
 use Rattle.vab_device.proofs.MostLaws.{parts_under}
 use Rattle.vab_device.proofs.StayLaws.{version_there}
+use Rattle.vab_device.proofs.OverlayLaws.{plain_none}
+use Rattle.vab_begin.proofs.KeptLaws.{ends_plain}
 
 -- ---- what is kept
 
@@ -100,18 +102,20 @@ both_checks marks.Completed m most t u both = absurd cc
 cancelled_a : (d : Device) (old new : Image) (a : List Part)
     → d.mark.slot ≡ 0
     → d.a ≡ Some a
+    → d.overlay ≡ None
     → map (image_on new) a ≡ map (image_on old) a
     → mounted_on (without_update d) new ≡ cancelled (mounted_on d old) d.mark.slot
 unfolding state_on
-cancelled_a d old new a slot some same = rw (slot, some, same) refl
+cancelled_a d old new a slot some plain same = rw (slot, some, plain, same) refl
 
 cancelled_b : (d : Device) (old new : Image) (b : List Part)
     → d.mark.slot ≡ 1
     → d.b ≡ Some b
+    → d.overlay ≡ None
     → map (image_on new) b ≡ map (image_on old) b
     → mounted_on (without_update d) new ≡ cancelled (mounted_on d old) d.mark.slot
 unfolding state_on
-cancelled_b d old new b slot some same = rw (slot, some, same) refl
+cancelled_b d old new b slot some plain same = rw (slot, some, plain, same) refl
 
 cancel_installed : (d : Device) (old : Image) (staged : Option (List ℕ)) (plan : List Part)
     → d.plan ≡ Some plan
@@ -272,14 +276,14 @@ module _
   mark_new : mark_in new ≡ Ok (rephased marks.Idle r.mark)
   mark_new =
       subst (λ (m : UpdateMark). mark_in new ≡ Ok (rephased marks.Idle m)) own_mark
-      (mark_there (rephased marks.Idle d.mark) new refl refl read
+      (mark_there (rephased marks.Idle d.mark) new refl (refl, refl) read
       (set_here old 2048 (mark_spelling (rephased marks.Idle d.mark)) 2048 refl))
 
   reads : Reads size (idle_read (rephased marks.Idle r.mark) d.control r.geometry two.0) new
   reads =
       reads_idle size new (rephased marks.Idle r.mark) is.reads.enough mark_new refl d.control
       r.geometry
-      two.0
+      two.0 refl
       (control_seen_in _ _ new d.control control_new)
       (geometry_same size old new
       (elsewhere 4104 (λ e. omega (arith, e)))
@@ -341,14 +345,17 @@ module _
       images_behind size 4096 1 _ _ is.read old s is.reads (omega arith)
       (subst (λ (k : Device). IsOfImages k.b s) is.is there))
 
+  no_overlay : d.overlay ≡ None
+  no_overlay = plain_none d size dev (ends_plain d size dev ends)
+
   means : mounted_on next new ≡ cancelled (mounted_on d old) d.mark.slot
   means = elim (cases_slot d.mark.slot dev.slot) [
     | inl first ↦
         let a = some_of d.a (source_a d size dev first) in
-        cancelled_a d old new a.0 first a.1 (some_same a.0 old new d.a a.1 images_a)
+        cancelled_a d old new a.0 first a.1 no_overlay (some_same a.0 old new d.a a.1 images_a)
     | inr one ↦
         let b = some_of d.b (source_b d size dev one) in
-        cancelled_b d old new b.0 one b.1 (some_same b.0 old new d.b b.1 images_b)
+        cancelled_b d old new b.0 one b.1 no_overlay (some_same b.0 old new d.b b.1 images_b)
   ]
 
   pub cancel_step : IsStep d next staged Cancel replies.Done false size old new

@@ -6,7 +6,7 @@ use Rattle.std.specs.Prelude.{◌==◌, if◌then◌else◌, Bool, Option, None,
 use Rattle.std.proofs.lemmas.Bool.{cases_Bool, eqb-true}
 use Rattle.vab_marks.specs.declared.mark.MarkPhase.{MarkPhase}
 use Rattle.vab_marks.specs.declared.mark.UpdateMark.{UpdateMark}
-use Rattle.vab_marks.specs.Mark.{MayStandApart}
+use Rattle.vab_marks.specs.Mark.{FlagsFit}
 use Rattle.vab_bootctl.specs.declared.slots.Control.{Control}
 use Rattle.vab_bootctl.specs.Control.{Fits}
 use Rattle.vab_geometry.specs.declared.geometry.Geometry.{Geometry}
@@ -14,11 +14,15 @@ use Rattle.vab_tables.specs.declared.table.Table.{Table}
 use Rattle.vab_layout.specs.Slots.{other_slot}
 use Rattle.vab_device.specs.declared.device.Part.{Part}
 use Rattle.vab_device.specs.declared.device.Device.{Device}
-use Rattle.vab_device.specs.Kept.{IsDevice, IsKeptTable, ArePresent, IsPhase, IsUpdate}
+use Rattle.vab_device.specs.Kept.{IsDevice, IsKeptTable, ArePresent, IsPhase, IsUpdate, IsOverlay}
 use Rattle.vab_device.specs.Kept.{is_installing, has_both, has_slot, reads_both, table_of_slot}
 use Rattle.vab_begin.specs.Kept.{with_control, with_update, without_update}
 use Rattle.vab_begin.specs.Writes.{MayEnd}
 use Rattle.vab_device.proofs.PhaseCases.{no_target}
+use Rattle.vab_device.specs.Kept.{parts_at}
+use Rattle.vab_device.proofs.MarkLaws.{not_overlaid}
+use Rattle.vab_device.proofs.OverlayLaws.{plain_none}
+use Rattle.vab_marks.specs.Mark.{is_idle}
 
 -- ---- the phase that is kept
 
@@ -107,7 +111,7 @@ table_b_at (suc (suc n)) size g b t below is new = absurd (omega (arith, below))
 
 -- the mark in this phase, whose target stands apart or not
 abbrev pub phased : MarkPhase → Bool → UpdateMark → UpdateMark
-phased phase apart m = record m { phase = phase; apart = apart }
+phased phase apart m = record m { phase = phase; apart = apart; overlaid = false }
 
 -- With another phase, table of the other slot, plan and boot control it is a device.
 pub update_kept : (d : Device) (size : ℕ) (c : Control) (phase : MarkPhase) (apart : Bool)
@@ -116,7 +120,8 @@ pub update_kept : (d : Device) (size : ℕ) (c : Control) (phase : MarkPhase) (a
     → Fits c
     → c.current ≡ d.mark.slot
     → IsPhase phase
-    → MayStandApart (phased phase apart d.mark)
+    → FlagsFit (phased phase apart d.mark)
+    → d.mark.overlaid ≡ false
     → has_both d.mark.phase ≡ false
     → has_both phase ≡ false
     → IsKeptTable size d.geometry (other_slot d.mark.slot) t
@@ -125,8 +130,8 @@ pub update_kept : (d : Device) (size : ℕ) (c : Control) (phase : MarkPhase) (a
     → ArePresent size plan
     → IsUpdate apart d.mark.slot (table_of_slot d d.mark.slot) t
     → IsDevice (with_control c (with_update d (phased phase apart d.mark) t plan)) size
-update_kept d size c phase apart t plan is fits current known stands was one table there planned
-    plans update =
+update_kept d size c phase apart t plan is fits current known stands plain was one table there
+    planned plans update =
     let source : table_of_slot (with_update d (phased phase apart d.mark) t plan) d.mark.slot
     ≡ table_of_slot d d.mark.slot =
     source_at d.mark.slot d.table_a d.table_b t in
@@ -140,7 +145,7 @@ update_kept d size c phase apart t plan is fits current known stands was one tab
       control = fits;
       phase = known;
       slot = is.slot;
-      apart = stands;
+      flags = stands;
       current = own_has phase d.mark.slot c.current (sym current);
       has_a =
           is.has_a ∙ one_has d.mark.phase d.mark.slot 0 was ∙ sym (one_has phase d.mark.slot 0 one);
@@ -161,6 +166,8 @@ update_kept d size c phase apart t plan is fits current known stands was one tab
           (sym source)
           (subst (λ (x : Option Table). IsUpdate apart d.mark.slot (table_of_slot d d.mark.slot) x)
           (sym target) update));
+      overlaid = is.overlaid ∙ plain;
+      overlay = is.overlay;
     }
 
 -- ---- without an update
@@ -191,6 +198,12 @@ has_b_at zero b below has = refl
 has_b_at (suc zero) b below has = has refl
 has_b_at (suc (suc n)) b below has = absurd (omega (arith, below))
 
+-- no partition is overlaid where an update ends
+pub ends_plain : (d : Device) (size : ℕ) → IsDevice d size → MayEnd d → d.mark.overlaid ≡ false
+ends_plain d size is (inl installing) =
+    not_overlaid d.mark is.flags (ap is_idle installing)
+ends_plain d size is (inr staged) = not_overlaid d.mark is.flags (ap is_idle staged.0)
+
 -- the slot that was booted last is the source
 pub ends_at_source : (d : Device) (size : ℕ)
     → IsDevice d size
@@ -215,7 +228,7 @@ ended_kept d size is ends =
       control = is.control;
       phase = inl refl;
       slot = is.slot;
-      apart = refl;
+      flags = (refl, refl);
       current = eq-eqb d.mark.slot d.control.current (sym (ends_at_source d size is ends));
       has_a = has_a_at d.mark.slot d.a is.slot (source_a d size is);
       has_b = has_b_at d.mark.slot d.b is.slot (source_b d size is);
@@ -233,6 +246,11 @@ ended_kept d size is ends =
           (sym source)
           (subst (λ (x : Option Table). IsUpdate false d.mark.slot (table_of_slot d d.mark.slot) x)
           (sym target) (no_target false d.mark.slot (table_of_slot d d.mark.slot))));
+      overlaid = is.overlaid ∙ ends_plain d size is ends;
+      overlay = subst
+          (IsOverlay size (parts_at (without_update d) d.mark.slot))
+          (sym (plain_none d size is (ends_plain d size is ends)))
+          tt;
     }
 
 -- its source stays

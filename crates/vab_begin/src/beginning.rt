@@ -1,6 +1,6 @@
 //! An update that begins.
 
-ghost use Rattle.std.specs.Prelude.{◌≡◌, ◌<◌, ℕ, List, Option, Some, IfOk};
+ghost use Rattle.std.specs.Prelude.{false, ◌≡◌, ◌<◌, ℕ, List, Option, Some, IfOk};
 ghost use Rattle.vab_marks.specs.declared.mark.MarkPhase.TheVariants as marks;
 ghost use Rattle.vab_marks.specs.Mark.{begun};
 ghost use Rattle.vab_install.specs.Control.{cleared_of, IsWritten};
@@ -51,6 +51,7 @@ fn begin_to<D: Disk>(
     requires kept { IsDevice device (D.size d.old) }
     requires represents { D.is_modelled → Represents device (D.size d.old) (D.seen d.old) }
     requires idle { device.mark.phase ≡ marks.Idle }
+    requires plain { device.mark.overlaid ≡ false }
     requires target { IsTargetFor apart device target }
     ensures does { (staged : Option (List ℕ))
         → Does D.Disk device staged (begin_of apart)
@@ -79,8 +80,8 @@ fn begin_to<D: Disk>(
 /// same blocks, or without any where the target is to stand `apart`, as in a factory install. It
 /// stands on the disk, and no statuses and nothing of the target in boot control, before one gate
 /// of the update mark says that an update is installed. Refused with `NotIdle` where there is an
-/// update, and with `TableFull` where the table's text would be longer than a copy may be.
-/// `NoMemory` where memory is refused, before anything is written.
+/// update or an overlay, and with `TableFull` where the table's text would be longer than a copy
+/// may be. `NoMemory` where memory is refused, before anything is written.
 pub fn begin<D: Disk>(
     alloc: Global,
     d: &mut D,
@@ -98,6 +99,9 @@ pub fn begin<D: Disk>(
         → IsWritten (cleared_of device.control (other_slot device.mark.slot))
         (D.seen d.old 4) (D.seen d.new 4)) }
 {
+    if device.mark.overlaid {
+        return Ok((device, Reply::Refused(Refusal::NotIdle)));
+    }
     match device.phase() {
         PhaseKind::Installing(_) => Ok((device, Reply::Refused(Refusal::NotIdle))),
         PhaseKind::Staged(_) => Ok((device, Reply::Refused(Refusal::NotIdle))),

@@ -21,7 +21,9 @@ use Rattle.vab_model.specs.declared.command.Reply.TheVariants as replies
 use Rattle.vab_model.specs.Commands.{Begin, Create, Resize, Snapshot, Flash, Finish, SetActive}
 use Rattle.vab_model.specs.Effects.{Effect, IsOneOf, answers, effect_map, active_effect}
 use Rattle.vab_model.specs.Machine.{machine_effect}
-use Rattle.vab_model.specs.Effects.{steps_of, last_of, after_of}
+use Rattle.vab_model.specs.Effects.{steps_of, last_of, after_of, if_plain}
+use Rattle.vab_model.specs.declared.state.Overlay.{Overlay as OverlayOf}
+use Rattle.vab_session.proofs.OverlayLaws.{if_either}
 use Rattle.vab_model.specs.State.{images_at, has_images}
 use Rattle.vab_model.specs.Machine.{with_images, exceptions_in, least_declared}
 use Rattle.vab_device.specs.Mounted.{Mounted, in_state}
@@ -110,7 +112,10 @@ module _ (m : Mounted) where
   }
 
   begins : (x : Mounted) → StillRuns m x → AllRun (effect_on x None Begin).later
-  begins x runs y is = planned x y runs (begin_planned x false x.state.phase y is)
+  begins x runs =
+      if_either (λ e. AllRun e.later) x.state.overlay (begin_effect x false x.state.phase)
+      (λ y none. absurd none)
+      (λ y is. planned x y runs (begin_planned x false x.state.phase y is))
 
   edits : (x : Mounted) (guard : Guard) (edit : EditOf)
       → StillRuns m x
@@ -376,6 +381,13 @@ not_begun m (Installing source plan) rest other = refl
 not_begun m (Staged source left) rest other = refl
 not_begun m (Merging target left) rest other = refl
 
+-- nor behind the test of an overlay
+not_over : (m : Mounted) (o : Option OverlayOf) (phase : Phase) (rest : Effect Mounted)
+    → phase ≢ Idle
+    → (followed (if_plain o (begin_effect m false phase)) rest).later ≡ []
+not_over m None phase rest other = not_begun m phase rest other
+not_over m (Some o) phase rest other = refl
+
 pub needs_no_update : (m : Mounted) (set : List SetImage)
     → m.state.phase ≢ Idle
     → (install_effect m set).later ≡ []
@@ -383,7 +395,7 @@ unfolding effect_all
 needs_no_update m set other =
     let slot : ℕ = m.state.control.current in
     let last : List Order = order Finish ∷ order (SetActive (other_slot slot)) ∷ [] in
-    not_begun m m.state.phase
+    not_over m m.state.overlay m.state.phase
     (effect_all (flat_map (image_orders slot) set ++ last)
-    (after_of m (begin_effect m false m.state.phase)))
+    (after_of m (if_plain m.state.overlay (begin_effect m false m.state.phase))))
     other

@@ -22,7 +22,7 @@ use Rattle.vab_model.specs.declared.command.Refusal.TheVariants as refusals
 use Rattle.vab_model.specs.declared.command.Reply.TheVariants as replies
 use Rattle.vab_model.specs.Commands.{Command, SetActive, Boot, Mark, Print, Digest, Begin, Create}
 use Rattle.vab_model.specs.Commands.{Resize, Delete, Snapshot, Flash, Finish, Cancel}
-use Rattle.vab_model.specs.Commands.{Merge, Factory}
+use Rattle.vab_model.specs.Commands.{Merge, Factory, Overlay, OverlayWrite, OverlayDiscard}
 use Rattle.vab_model.specs.State.{images_at}
 use Rattle.vab_model.specs.Effects.{Effect, Found, Image_is, Refused_by, found_of, print_effect}
 use Rattle.vab_model.specs.Effects.{digest_effect, active_effect, effect_map, IsOneOf}
@@ -32,7 +32,8 @@ use Rattle.vab_model.specs.Machine.{with_images, without_images, declared_name, 
 use Rattle.vab_model.specs.Machine.{exceptions_in}
 use Rattle.vab_model.specs.Machine.{turns as turns_of}
 use Rattle.vab_device.specs.Mounted.{Mounted, in_state}
-use Rattle.vab_device.specs.Updates.{effect_on}
+use Rattle.vab_device.specs.Updates.{effect_on, begin_effect}
+use Rattle.vab_session.proofs.OverlayLaws.{if_either, overlay_makes, write_makes, discard_makes}
 use Rattle.vab_device.specs.Updates.{EditOf, Guard, edit_effect, no_guard, settled_guard}
 use Rattle.vab_device.specs.Updates.{store_guard, create_edit, resize_edit}
 use Rattle.vab_device.specs.Updates.{delete_edit, snapshot_edit}
@@ -258,8 +259,12 @@ module _ (m : Mounted) where
   same_by staged Mark other = one _ (record { a = refl; b = refl })
   same_by staged (Print name) other = prints name (found_of m.state name)
   same_by staged (Digest name) other = digests (found_of m.state name)
-  same_by staged Begin other = λ x is. planned x _ (begin_planned m false m.state.phase x is)
-  same_by staged Factory other = λ x is. planned x _ (begin_planned m true m.state.phase x is)
+  same_by staged Begin other =
+      if_either (λ e. AreSame e.later) m.state.overlay (begin_effect m false m.state.phase) none
+      (λ x is. planned x _ (begin_planned m false m.state.phase x is))
+  same_by staged Factory other =
+      if_either (λ e. AreSame e.later) m.state.overlay (begin_effect m true m.state.phase) none
+      (λ x is. planned x _ (begin_planned m true m.state.phase x is))
   same_by staged (Create name size) other = edits no_guard (create_edit name size)
   same_by staged (Resize name size) other =
       edits (settled_guard (nat_le size (2 ^ 40)) name) (resize_edit name size)
@@ -268,6 +273,12 @@ module _ (m : Mounted) where
   same_by staged (Flash name chunk) other =
       λ x is. planned x _ (flash_planned m staged name chunk x is)
   same_by staged (Merge blocks) other = merges blocks m.state.phase
+  same_by staged (Overlay name size) other =
+      overlay_makes m AreSame none (λ o. one _ (record { a = refl; b = refl })) staged name size
+  same_by staged (OverlayWrite block) other =
+      write_makes m AreSame none (λ o. one _ (record { a = refl; b = refl })) staged block
+  same_by staged OverlayDiscard other =
+      discard_makes m AreSame none (λ o. one _ (record { a = refl; b = refl })) staged
   same_by staged _ other = absurd cc
 
 pub same_images : (m next : Mounted) (staged : Option (List ℕ)) (c : Command)

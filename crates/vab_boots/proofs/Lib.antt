@@ -3,5 +3,6 @@ pub mod Booting
 mod Facts
 mod Installing
 mod Keeping
+mod Overlaying
 mod Planned
 mod Wiping

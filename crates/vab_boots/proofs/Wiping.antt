@@ -8,10 +8,12 @@ use Rattle.vab_super_image.specs.declared.image.SuperImage.{SuperImage}
 use Rattle.vab_model.specs.declared.command.Reply.{Reply}
 use Rattle.vab_model.specs.declared.command.Reply.TheVariants as replies
 use Rattle.vab_model.specs.Commands.{UpdateSuper}
-use Rattle.vab_model.specs.Effects.{IsOneOf, steps_of, after_of, last_of}
+use Rattle.vab_model.specs.declared.command.Refusal.TheVariants as refusals
+use Rattle.vab_model.specs.Effects.{Effect, IsOneOf, steps_of, after_of, last_of}
 use Rattle.vab_device.specs.Mounted.{Mounted}
 use Rattle.vab_device.specs.Reading.{IsIn}
-use Rattle.vab_device.specs.Updates.{effect_on, wiped}
+use Rattle.vab_device.specs.Updates.{effect_on, update_super, wiped}
+use Rattle.vab_session.proofs.OverlayLaws.{if_either}
 use Rattle.vab_session.proofs.WipeLaws.{IsDone, wipe_comes, wiped_has, wiped_beside, wiped_stays}
 use Rattle.vab_session.proofs.WipeLaws.{all_empty}
 use Rattle.vab_boots.specs.Wiped.{HasEmpty, IsWipedBy}
@@ -48,16 +50,24 @@ module _ (m : Mounted) (staged : Option (List ℕ)) where
     has = has_empty m m.state.control.current done.image below;
   }
 
+  abbrev row : Effect Mounted
+  row = update_super m m.state.control.current staged m.state.phase
+
   done_by : m.state.control.current < 2
       → (effect_on m staged UpdateSuper).reply ≡ replies.Done
       → IsWipedBy m staged (after_of m (effect_on m staged UpdateSuper))
   done_by below is =
+      if_either (λ e. e.reply ≡ replies.Done → IsWipedBy m staged (after_of m e)) m.state.overlay
+      row
+      (λ told. refused_not refusals.NotIdle told)
+      (λ told.
       elim (wipe_comes m m.state.control.current staged m.state.phase) [
-        | inl refused ↦ refused_not refused.refusal (sym refused.told ∙ is)
+        | inl refused ↦ refused_not refused.refusal (sym refused.told ∙ told)
         | inr done ↦
             subst (λ (l : List Mounted). IsWipedBy m staged (last_of m l)) (sym done.one)
             (wiped_by _ _ done below)
-      ]
+      ])
+      is
 
   one_of : (x next : Mounted)
       → IsWipedBy m staged x
@@ -72,22 +82,31 @@ module _ (m : Mounted) (staged : Option (List ℕ)) where
       → (next ≡ m) ⊎ IsWipedBy m staged next
   step_by next below (inl same) = inl same
   step_by next below (inr later) =
+      if_either (λ e. IsOneOf e.later next → (next ≡ m) ⊎ IsWipedBy m staged next)
+      m.state.overlay row
+      (λ none. absurd none)
+      (λ there.
       elim (wipe_comes m m.state.control.current staged m.state.phase) [
         | inl refused ↦
-            absurd (subst (λ (l : List Mounted). IsOneOf l next) refused.none later)
+            absurd (subst (λ (l : List Mounted). IsOneOf l next) refused.none there)
         | inr done ↦
             inr (one_of (wiped m m.state.control.current done.image) next
             (wiped_by _ _ done below)
-            (subst (λ (l : List Mounted). IsOneOf l next) done.one later))
-      ]
+            (subst (λ (l : List Mounted). IsOneOf l next) done.one there))
+      ])
+      later
 
   pub refused_keeps : (effect_on m staged UpdateSuper).reply ≢ replies.Done
       → (effect_on m staged UpdateSuper).later ≡ []
   refused_keeps apart =
+      if_either (λ e. e.reply ≢ replies.Done → e.later ≡ []) m.state.overlay row
+      (λ told. refl)
+      (λ told.
       elim (wipe_comes m m.state.control.current staged m.state.phase) [
         | inl refused ↦ refused.none
-        | inr done ↦ absurd (apart done.told)
-      ]
+        | inr done ↦ absurd (told done.told)
+      ])
+      apart
 
 pub wiped_is_empty : (size : ℕ) (image : Image) (m : Mounted) (staged : Option (List ℕ))
     → IsIn size m image

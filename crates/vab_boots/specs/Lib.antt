@@ -2,4 +2,5 @@ pub mod Begun
 pub mod Boots
 pub mod Images
 pub mod Installed
+pub mod Overlaid
 pub mod Wiped

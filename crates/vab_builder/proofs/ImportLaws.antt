@@ -89,7 +89,7 @@ has_slot_long name h =
     let a = and_parts (leb 3 (length name) && line) letter h in
     leb-true _ _ (and_parts (leb 3 (length name)) line a.0).0
 
-default_rule : IsGroup default_group
+pub default_rule : IsGroup default_group
 unfolding is_name is_shared
 default_rule =
     record {
@@ -100,7 +100,7 @@ default_rule =
       unlimited = λ _. refl;
     }
 
-stores_rule : IsGroup stores_group
+pub stores_rule : IsGroup stores_group
 unfolding is_name is_shared
 stores_rule =
     record {
@@ -160,7 +160,7 @@ twin_groups_named slot other groups =
     All-map (λ (g : Group). is_of_slot other g.name ≡ true) (twin_group other)
     (own_groups slot groups) (λ (k : ℕ) (d : Group) lt. in_slot_of_slot other _)
 
-own_groups_named : (slot : ℕ) (groups : List Group)
+pub own_groups_named : (slot : ℕ) (groups : List Group)
     → All (λ g. is_of_slot slot g.name ≡ true) (own_groups slot groups)
 own_groups_named slot groups = filter_passes (λ (g : Group). is_of_slot slot g.name) groups
 
@@ -315,7 +315,7 @@ slot_parts slot l rules own = λ (k : ℕ) (d : Part) lt. record {
   own = own.each k d lt;
 }
 
-own_parts_named : (slot : ℕ) (parts : List Part)
+pub own_parts_named : (slot : ℕ) (parts : List Part)
     → All (λ p. is_of_slot slot p.name ≡ true) (own_parts slot parts)
 own_parts_named slot parts = filter_passes (λ (p : Part). is_of_slot slot p.name) parts
 
@@ -349,7 +349,7 @@ twin_parts_named slot other parts =
     All-map (λ (p : Part). is_of_slot other p.name ≡ true) (twin_part other) (own_parts slot parts)
     (λ (k : ℕ) (d : Part) lt. in_slot_of_slot other _)
 
-own_parts_apart : (slot : ℕ) (parts : List Part) → NamesDiffer (λ (p : Part). p.name) parts
+pub own_parts_apart : (slot : ℕ) (parts : List Part) → NamesDiffer (λ (p : Part). p.name) parts
     → NamesDiffer (λ (p : Part). p.name) (own_parts slot parts)
 own_parts_apart slot parts h = AllPairs-filter PartsApart (λ p. is_of_slot slot p.name) parts h
 
@@ -378,7 +378,7 @@ imported_parts_apart source parts lt h =
     (twin_parts_apart source other parts h) cross
 
 -- a partition of the slot among groups of which its own are one
-part_stays : (cap slot : ℕ) (groups all : List Group) (p : Part) → IsSlotPart cap groups slot p
+pub part_stays : (cap slot : ℕ) (groups all : List Group) (p : Part) → IsSlotPart cap groups slot p
     → ((g : Group) → Contains (own_groups slot groups) g → Contains all g)
     → IsPart cap (default_group ∷ all) p
 part_stays cap slot groups all p h stays = record {
@@ -515,7 +515,7 @@ no_store_of_target source parts =
     (twin_parts_named source other parts k d le)))
 
 -- no partition of a slot has a store's name
-not_a_store : (slot : ℕ) (parts : List Part) (name : List ℕ)
+pub not_a_store : (slot : ℕ) (parts : List Part) (name : List ℕ)
     → All (λ p. is_of_slot slot p.name ≡ true) parts → All (λ s. s.name ≢ store_of name) parts
 not_a_store slot parts name all =
     λ (k : ℕ) (d : Part) le. of_slot_not slot _ (store_of name) (all k d le)
@@ -705,7 +705,7 @@ imported_groups_of_slot apart source l lt =
 
 -- ---- a slot alone
 
-own_parts_again : (slot : ℕ) (parts : List Part)
+pub own_parts_again : (slot : ℕ) (parts : List Part)
     → own_parts slot (own_parts slot parts) ≡ own_parts slot parts
 own_parts_again slot parts =
     filter_all (λ p. is_of_slot slot p.name) (own_parts slot parts) (own_parts_named slot parts)

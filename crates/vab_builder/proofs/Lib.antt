@@ -28,3 +28,4 @@ pub mod StoreKeeps
 pub mod ChangeKeeps
 pub mod AskedLaws
 pub mod LimitLaws
+pub mod OverlayTable

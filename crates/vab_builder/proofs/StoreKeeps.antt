@@ -73,7 +73,7 @@ updated_target slot twins source target name update of =
 
 -- ---- the store stands behind
 
-stored_own : (slot : ℕ) (parts : List Part) (s : Part) → is_of_slot slot s.name ≡ false
+pub stored_own : (slot : ℕ) (parts : List Part) (s : Part) → is_of_slot slot s.name ≡ false
     → own_parts slot (parts ++ s ∷ []) ≡ own_parts slot parts
 stored_own slot parts s other =
     let none : List Part = [] in

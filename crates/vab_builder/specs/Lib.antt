@@ -7,3 +7,4 @@ pub mod Gives
 pub mod Update
 pub mod Judged
 pub mod Sums
+pub mod Overlay

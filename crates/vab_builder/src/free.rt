@@ -1,15 +1,18 @@
-//! The blocks that an update may still take.
+//! The blocks that an update or a store may still take.
 
 ghost use Rattle.std.specs.Prelude.{◌≡◌, ◌<◌, ◌++◌, IfOk, OnOk};
+ghost use Rattle.vab_tables.specs.Rules.{cap_of};
+ghost use Rattle.vab_blocks.specs.Blocks.{free_below};
 ghost use Rattle.vab_layout.specs.Layout.{blocks_of_parts};
 ghost use Rattle.vab_layout.specs.Slots.{other_slot, own_parts, store_parts};
 ghost use Rattle.vab_builder.specs.Edits.{free_of};
+ghost use Rattle.vab_builder.specs.Overlay.{free_beside};
 
 use std::alloc::Global;
 use vab_blocks::{Blocks, Runs};
 use vab_layout::{Layout, Part};
 use vab_names::{is_of_slot, is_store};
-use vab_tables::NoMemory;
+use vab_tables::{BlockDevice, NoMemory};
 
 /// The blocks that are in no partition of the source, and in no partition and no store of the
 /// target.
@@ -23,8 +26,25 @@ pub(crate) fn free_blocks(
     ensures { IfOk result (λ r. r ≡ free_of slot source.now target.now) }
 {
     let taken = taken(alloc, source, target, slot)?;
-    let taken = Runs::sorted(alloc, &taken)?;
-    Runs::free(alloc, target.device.cap(), &taken)
+    free_below(alloc, &target.device, &taken)
+}
+
+/// The blocks that are in none of the slot's own partitions.
+pub(crate) fn free_beside(alloc: Global, layout: &Layout, slot: usize) -> Result<Runs, NoMemory>
+    requires { slot < 2 }
+    ensures { IfOk result (λ r. r ≡ free_beside slot layout.now) }
+{
+    let mut taken = Blocks::new(alloc);
+    push_own(&mut taken, layout.parts.as_slice(), slot)?;
+    free_below(alloc, &layout.device, &taken)
+}
+
+// The blocks of the device that are not taken.
+fn free_below(alloc: Global, device: &BlockDevice, taken: &Blocks) -> Result<Runs, NoMemory>
+    ensures { IfOk result (λ r. r ≡ free_below (cap_of device.now) taken.now) }
+{
+    let taken = Runs::sorted(alloc, taken)?;
+    Runs::free(alloc, device.cap(), &taken)
 }
 
 // The blocks of the source, and those of the target and of its stores.

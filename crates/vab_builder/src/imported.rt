@@ -161,8 +161,8 @@ fn imported_parts(
 
 // ---- groups
 
-// A group without a limit.
-fn unlimited(name: Name36) -> Group
+/// A group without a limit.
+pub(crate) fn unlimited(name: Name36) -> Group
     ensures { result ≡ record { name = name; flags = 0; maximum_size = 0 } }
 {
     Group {

@@ -1,5 +1,5 @@
 //! The tables of an update: the target's as the update begins, what edits make of it, and a slot's
-//! table without stores.
+//! table without stores, or with a store over one of its partitions.
 #![tactic(auto)]
 
 mod applied;
@@ -16,6 +16,7 @@ mod groups;
 mod imported;
 mod judge;
 mod names;
+mod overlay;
 mod parts;
 mod resize;
 mod room;
@@ -27,4 +28,5 @@ mod wanted;
 pub use applied::apply;
 pub use edit::Edit;
 pub use fault::EditFault;
+pub use overlay::{blocks_beside, has_own, with_overlay};
 pub use tables::{import, without_stores};

@@ -10,7 +10,7 @@ ghost use Rattle.vab_builder.specs.Edits.{free_of, kept_blocks, changed, updated
 use crate::find::{has_group, place_of, push_before, push_named};
 use crate::free::free_blocks;
 use std::alloc::Global;
-use vab_blocks::Blocks;
+use vab_blocks::{Blocks, Runs};
 use vab_bytes::Name36;
 use vab_layout::{Layout, Part};
 use vab_tables::{Group, NoMemory};
@@ -34,6 +34,19 @@ pub(crate) fn push_free(
         ++ take count (free_of slot source.now target.now)) }
 {
     let free = free_blocks(alloc, source, target, slot)?;
+    push_lowest(alloc, blocks, &free, count)
+}
+
+/// Writes the lowest of these blocks at the end, so many.
+pub(crate) fn push_lowest(
+    alloc: Global,
+    blocks: &mut Blocks,
+    free: &Runs,
+    count: u64,
+) -> Result<(), NoMemory>
+    requires { count ≤ length free.now }
+    ensures { OnOk result (blocks.new ≡ blocks.old ++ take count free.now) }
+{
     match free.take_lowest(alloc, count)? {
         Some(lowest) => blocks.append(lowest.as_blocks())?,
         None => unreachable!(),

@@ -22,7 +22,8 @@ fn state_text(rule: u8) -> &'static str {
     match rule {
         1 => "the current slot has no images",
         2 => "boot control doesn't say of the mark's slot that it has worked and may be booted",
-        _ => "a partition that the update writes has no status",
+        3 => "a partition that the update writes has no status",
+        _ => "the slot is overlaid, and not exactly one of its partitions has a store",
     }
 }
 
@@ -67,7 +68,7 @@ fn write_contents<W: fmt::Write>(f: &mut fmt::Formatter<W>, fault: &StartFault) 
             write_named(f, "partition ", name, " breaks a rule of its table")
         }
         StartFault::BadStore(name) => {
-            write_named(f, "the store of ", name, " isn't there as its status says")
+            write_named(f, "the store of ", name, " isn't there as its status or the overlay says")
         }
         StartFault::BadState(rule) => write!(f, "{}", state_text(*rule)),
         StartFault::NoMemory => write!(f, "out of memory"),

@@ -85,7 +85,10 @@ fn done_line(command: &Command, current: usize, left: u64, out: &mut Line)
         | Command::Flash(_, _)
         | Command::Finish
         | Command::Merge(_)
-        | Command::UpdateSuper => put_line(out, b"", b""),
+        | Command::UpdateSuper
+        | Command::Overlay(_, _)
+        | Command::OverlayWrite(_)
+        | Command::OverlayDiscard => put_line(out, b"", b""),
     }
 }
 

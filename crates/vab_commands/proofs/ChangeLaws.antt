@@ -13,14 +13,15 @@ use Rattle.vab_bootctl.specs.Boot.{activated_of, booted_of}
 use Rattle.vab_bootctl.specs.Control.{control_of, KeepsRest}
 use Rattle.vab_marks.specs.declared.mark.MarkPhase.TheVariants as marks
 use Rattle.vab_merging.specs.GateWrites.{merging_mark}
-use Rattle.vab_marks.specs.Mark.{rephased, begun}
+use Rattle.vab_marks.specs.Mark.{rephased, begun, overlaid_by}
 use Rattle.vab_geometry.specs.declared.geometry.Geometry.{Geometry}
 use Rattle.vab_lpstore.specs.Layout.{primary_of, backup_of}
 use Rattle.vab_layout.specs.Slots.{other_slot}
 use Rattle.vab_install.specs.Control.{cleared_of, IsControl as IsClearing}
 use Rattle.vab_model.specs.Commands.{Command, SetActive, Boot, Mark, Print, Digest, Begin, Create}
 use Rattle.vab_model.specs.Commands.{Resize, Delete, Snapshot, Flash, Finish, Cancel, BeginMerge}
-use Rattle.vab_model.specs.Commands.{Merge, Factory, UpdateSuper}
+use Rattle.vab_model.specs.Commands.{Merge, Factory, UpdateSuper, Overlay, OverlayWrite}
+use Rattle.vab_model.specs.Commands.{OverlayDiscard}
 use Rattle.vab_device.specs.declared.device.Device.{Device}
 use Rattle.vab_device.specs.declared.device.Part.{Part}
 use Rattle.vab_device.specs.Does.{KeepsSource}
@@ -40,7 +41,8 @@ use Rattle.vab_commands.proofs.ControlsLaws.{chosen, rest_same, Reached, writes_
 use Rattle.vab_commands.proofs.ControlsLaws.{controls_wider}
 use Rattle.vab_merging.proofs.BehindLaws.{turns_behind}
 use Rattle.vab_merging.specs.Writes.{IsOfMerge}
-use Rattle.vab_commands.proofs.FreeLaws.{image_is_free}
+use Rattle.vab_commands.proofs.FreeLaws.{image_is_free, store_is_free, head_behind}
+use Rattle.vab_overlaying.specs.Writes.{IsOfOverlay}
 
 -- ---- one command
 
@@ -161,6 +163,11 @@ module _ {D : Type 0}
   one_writes BeginMerge not w = absurd (let no : true ≡ false = not in cc)
   one_writes (Merge blocks) not w = absurd (let no : true ≡ false = not in cc)
   one_writes UpdateSuper not w = absurd (let no : true ≡ false = not in cc)
+  one_writes (Overlay name size) not w = absurd (let no : true ≡ false = not in cc)
+  one_writes (OverlayWrite block) not w =
+      inr (inr (inr (inr (store_is_free d (g.size old) (g.seen old) s device is w))))
+  one_writes OverlayDiscard not w =
+      inr (inl (record { mark = overlaid_by false d.mark; of = refl; is = w.mark }))
 
 -- what commands write that don't change the source is of what all of them write
 update_all : (d : Device) (s : ℕ) (b : List ℕ) → IsOfUpdate d s b → IsOfUpdates d.geometry s b
@@ -198,6 +205,29 @@ merge_writes d size image blocks s b device is w =
     }))
     w.writes
 
+-- what the begin of an overlay writes
+overlay_writes : (d : Device) (size : ℕ) (name : List ℕ) (s : ℕ) (b : List ℕ)
+    → IsDevice d size
+    → IsOfOverlay d name s b
+    → IsOfUpdates d.geometry s b
+overlay_writes d size name s b device w =
+    ⊎_elim
+    (λ table.
+    inr (inr (inl (record {
+      slot = d.mark.slot;
+      below = device.slot;
+      text = record { text = _; fits = w.short; is = table };
+    }))))
+    (λ other.
+    ⊎_elim {C = IsOfUpdates d.geometry s b}
+    (λ head. inr (inr (inr (head_behind d size name s b device w head))))
+    (λ mark. inl (record {
+      slot = d.mark.slot;
+      mark = record { mark = overlaid_by true d.mark; of = refl; is = mark };
+    }))
+    other)
+    w.writes
+
 -- what any command writes
 any_writes : {D : Type 0} (g : Ghosts D) (d : Device) (old : D) (s : ℕ) (b : List ℕ)
     (command : Command)
@@ -229,6 +259,8 @@ any_writes g d old s b command t device is w =
       below = device.slot;
       text = record { text = _; fits = w.1.short; is = w.1.writes };
     })))
+    of_source (Overlay name size) source w =
+        overlay_writes d (g.size old) name s b device w
     of_source _ source w = absurd cc
 
 pub command_changes : {D : Type 0} (g : Ghosts D) (d : Device) (command : Command) (old new : D)

@@ -19,6 +19,7 @@ use vab_gate::DiskFault;
 use vab_manager::{boot, digest, mark, print, set_active};
 use vab_merging::{begin_merge, merge};
 use vab_model::{Command, Reply};
+use vab_overlaying::{overlay, overlay_discard, overlay_write};
 use vab_wipe::update_super;
 
 /// Carries out one command on a device, where these bytes are staged. Where the device that is kept
@@ -64,5 +65,8 @@ pub fn run_one<D: Disk>(
         Command::BeginMerge => begin_merge(d, device),
         Command::Merge(blocks) => merge(d, device, blocks),
         Command::UpdateSuper => update_super(alloc, d, device, staged),
+        Command::Overlay(name, size) => overlay(alloc, d, device, name, size),
+        Command::OverlayWrite(block) => overlay_write(d, device, staged, block),
+        Command::OverlayDiscard => overlay_discard(d, device),
     }
 }

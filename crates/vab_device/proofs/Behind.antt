@@ -22,6 +22,7 @@ use Rattle.vab_tables.specs.declared.table.Table.{Table}
 use Rattle.vab_tables.specs.declared.fault.TableFault.{TableFault}
 use Rattle.vab_layout.specs.declared.layout.Part.{Part as PartOfLayout}
 use Rattle.vab_layout.specs.declared.layout.Layout.{Layout}
+use Rattle.vab_layout.specs.Overlay.{Overlaid, overlaid_in}
 use Rattle.vab_layout.specs.Layout.{layout_of}
 use Rattle.vab_layout.specs.Slots.{other_slot, own_parts, is_updated}
 use Rattle.vab_device.specs.declared.fault.StartFault.{StartFault}
@@ -34,13 +35,15 @@ use Rattle.vab_device.specs.Kept.{lies_in}
 use Rattle.vab_device.specs.Mounted.{blocks_there, sectors_by}
 use Rattle.vab_device.specs.Phases.{phase_in, phase_at, store_on, planned_on, planned_image}
 use Rattle.vab_device.specs.Reading.{Read, table_read, table_at, tables_in, table_for, parts_for}
-use Rattle.vab_device.specs.Reading.{parts_by}
+use Rattle.vab_device.specs.Reading.{parts_by, IsOfOverlay}
 use Rattle.vab_device.specs.Reading.{read_table, kept, stores_of, Reads, IsOfBlocks, IsOfParts}
 use Rattle.vab_device.specs.Reading.{IsOfImages, IsOfStores, IsOfWritten, IsOfPlanned, IsOfPlan}
 use Rattle.vab_device.specs.Stores.{Wanted, Scanned, first_named, image_wanted, wanted_of, or_fewer}
 use Rattle.vab_device.specs.Stores.{scanned_named, sector_seen, sectors_seen}
 use Rattle.vab_device.proofs.CheckLaws.{bound}
 use Rattle.vab_device.proofs.InStores.{IsInStores, in_stores}
+use Rattle.vab_device.specs.Phases.{wanted_over, overlay_wanted, overlaid_on, image_over}
+use Rattle.vab_device.specs.Phases.{overlay_of}
 
 -- ---- partitions
 
@@ -169,12 +172,32 @@ fewer_from low slot l (st ∷ sts) s le is =
     (one_from (wanted_of true slot l st)
     (map (λ (st : PartStatus). or_fewer (wanted_of true slot l st)) sts) s is)
 
+-- the store over a partition
+over_from : (low : ℕ) (l : Layout) (o : Option Overlaid) (s : ℕ)
+    → low ≤ 4096 + l.device.first_logical_sector
+    → IsInStores (wanted_over l o) s
+    → low ≤ s
+over_from low l None s le is = absurd is
+over_from low l (Some o) s le (inl is) =
+    sectors_from l.device.first_logical_sector low o.store.blocks s le is
+over_from low l (Some o) s le (inr is) = absurd is
+
+over_wanted_from : (overlaid : Bool) (low slot : ℕ) (l : Layout) (s : ℕ)
+    → low ≤ 4096 + l.device.first_logical_sector
+    → IsInStores (overlay_wanted overlaid slot l) s
+    → low ≤ s
+over_wanted_from false low slot l s le is = absurd is
+over_wanted_from true low slot l s le is =
+    over_from low l (overlaid_in slot l.parts) s le is
+
 phase_stores_from : (low : ℕ) (p : MarkPhase) (m : UpdateMark) (ts : List Table)
     (statuses : List PartStatus) (s : ℕ)
     → BeginBehind low ts
     → IsInStores ((phase_in p m).stores ts statuses) s
     → low ≤ s
-phase_stores_from low marks.Idle m ts statuses s begin is = absurd is
+phase_stores_from low marks.Idle m [] statuses s begin is = absurd is
+phase_stores_from low marks.Idle m (t ∷ ts) statuses s begin is =
+    over_wanted_from m.overlaid low m.slot (layout_of t) s begin.0 is
 phase_stores_from low marks.Installing m [] statuses s begin is = absurd is
 phase_stores_from low marks.Installing m (t ∷ []) statuses s begin is = absurd is
 phase_stores_from low marks.Installing m (t ∷ u ∷ ts) statuses s begin is =
@@ -310,6 +333,53 @@ phase_plan_from low marks.Staged m ts ss s begin is = absurd is
 phase_plan_from low marks.Merging m ts ss s begin is = absurd is
 phase_plan_from low marks.Completed m ts ss s begin is = absurd is
 
+-- ---- the one that is overlaid
+
+-- a sector of it, through its store
+read_from : (low : ℕ) (l : Layout) (ss : List Scanned) (o : Overlaid) (image : PartImage) (s : ℕ)
+    → low ≤ 4096 + l.device.first_logical_sector
+    → IsOfBlocks (sectors_by (overlaid_on l ss o) image) s
+    → low ≤ s
+read_from low l ss o Kept s le is =
+    sectors_from l.device.first_logical_sector low o.part.blocks s le is
+read_from low l ss o Declared s le is =
+    sectors_from l.device.first_logical_sector low o.part.blocks s le is
+read_from low l ss o (Written k es) s le is =
+    let first = l.device.first_logical_sector in
+    ⊎_elim
+    (λ here. sectors_from first low o.store.blocks s le here)
+    (λ own. sectors_from first low o.part.blocks s le own)
+    (seen_or k (sectors_of first o.store.blocks) es 0 (sectors_of first o.part.blocks) s is)
+
+overlaid_from : (low : ℕ) (l : Layout) (ss : List Scanned) (o : Option Overlaid) (s : ℕ)
+    → low ≤ 4096 + l.device.first_logical_sector
+    → IsOfOverlay (option_map (overlaid_on l ss) o) s
+    → low ≤ s
+overlaid_from low l ss None s le is = absurd is
+overlaid_from low l ss (Some o) s le is =
+    read_from low l ss o (image_over (scanned_named o.part.name ss)) s le is
+
+overlay_from : (overlaid : Bool) (low slot : ℕ) (l : Layout) (ss : List Scanned) (s : ℕ)
+    → low ≤ 4096 + l.device.first_logical_sector
+    → IsOfOverlay (overlay_of overlaid slot l ss) s
+    → low ≤ s
+overlay_from false low slot l ss s le is = absurd is
+overlay_from true low slot l ss s le is =
+    overlaid_from low l ss (overlaid_in slot l.parts) s le is
+
+phase_overlay_from : (low : ℕ) (p : MarkPhase) (m : UpdateMark) (ts : List Table)
+    (ss : List Scanned) (s : ℕ)
+    → BeginBehind low ts
+    → IsOfOverlay ((phase_in p m).overlay ts ss) s
+    → low ≤ s
+phase_overlay_from low marks.Idle m [] ss s begin is = absurd is
+phase_overlay_from low marks.Idle m (t ∷ ts) ss s begin is =
+    overlay_from m.overlaid low m.slot (layout_of t) ss s begin.0 is
+phase_overlay_from low marks.Installing m ts ss s begin is = absurd is
+phase_overlay_from low marks.Staged m ts ss s begin is = absurd is
+phase_overlay_from low marks.Merging m ts ss s begin is = absurd is
+phase_overlay_from low marks.Completed m ts ss s begin is = absurd is
+
 -- ---- all that is read
 
 -- the tables of a reading begin behind the copies
@@ -351,5 +421,16 @@ pub plan_behind : (size low : ℕ) (r : Read) (image : Image) (s : ℕ)
     → low ≤ s
 plan_behind size low r image s reads le is =
     phase_plan_from low r.mark.phase r.mark r.tables r.scanned s
+    (read_begins size low r image reads le)
+    is
+
+-- and one of the overlaid partition
+pub overlay_behind : (size low : ℕ) (r : Read) (image : Image) (s : ℕ)
+    → Reads size r image
+    → 512 * (low - 4096) ≤ copies_end r.geometry
+    → IsOfOverlay (kept r).overlay s
+    → low ≤ s
+overlay_behind size low r image s reads le is =
+    phase_overlay_from low r.mark.phase r.mark r.tables r.scanned s
     (read_begins size low r image reads le)
     is

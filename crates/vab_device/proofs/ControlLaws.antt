@@ -14,17 +14,17 @@ use Rattle.vab_tables.specs.declared.table.Table.{Table}
 use Rattle.vab_model.specs.State.{control_seen, with_control}
 use Rattle.vab_device.specs.declared.device.Part.{Part}
 use Rattle.vab_device.specs.declared.device.Device.{Device}
-use Rattle.vab_device.specs.Mounted.{images_on, state_on, mounted_on, in_state}
+use Rattle.vab_device.specs.Mounted.{images_on, state_on, mounted_on, in_state, overlay_on}
 use Rattle.vab_device.specs.Phases.{phase_at}
-use Rattle.vab_device.specs.Reading.{Read, control_read, control_in, version_at}
+use Rattle.vab_device.specs.Reading.{Read, control_read, control_in, version_at, IsOfOverlay}
 use Rattle.vab_device.specs.Reading.{state_fault, stores_of, Reads, AgreeCopies}
 use Rattle.vab_device.specs.Reading.{Represents, IsOfTables, IsOfImages, IsOfPlan}
 use Rattle.vab_device.specs.Mounted.{entries_on}
 use Rattle.vab_device.proofs.MostLaws.{parts_under}
 use Rattle.vab_device.proofs.SameLaws.{mark_same, geometry_same, tables_agree, images_same}
 use Rattle.vab_device.proofs.SameLaws.{version_same}
-use Rattle.vab_device.proofs.StoreLaws.{statuses_kept, stores_kept, plan_kept}
-use Rattle.vab_device.proofs.Behind.{images_behind, stores_behind, plan_behind}
+use Rattle.vab_device.proofs.StoreLaws.{statuses_kept, stores_kept, plan_kept, overlay_kept}
+use Rattle.vab_device.proofs.Behind.{images_behind, stores_behind, plan_behind, overlay_behind}
 
 -- the copies of tables stand behind the geometries
 tables_from : (g : Geometry) (slots : List ℕ) (s : ℕ) → IsOfTables g slots s → 4120 ≤ s
@@ -184,9 +184,20 @@ module _
             (subst (λ (k : Device). IsOfPlan k.plan s) is.is there),
       )))
 
+  overlay : overlay_on gated d.overlay ≡ overlay_on old d.overlay
+  overlay =
+      overlay_kept d.overlay old gated
+      (λ s there.
+      elsewhere s (λ e. omega (
+        arith,
+        e,
+        overlay_behind size 4096 is.read old s is.reads (omega arith)
+            (subst (λ (k : Device). IsOfOverlay k.overlay s) is.is there),
+      )))
+
   -- and it means the state with that boot control, as far as slots have images
   pub mounted_gated : mounted_on (with_boot c d) gated
       ≡ in_state (mounted_on d old)
       (with_control (control_seen (is_some d.a) (is_some d.b) c) (state_on d old))
   unfolding state_on
-  mounted_gated = rw (images_a, images_b, plan) refl
+  mounted_gated = rw (images_a, images_b, plan, overlay) refl

@@ -1,17 +1,18 @@
 -- What the links of a disk without an update answer.
 use Rattle.std.proofs.Common.{◌≡◌, ◌∙◌, ℕ, true, false, leb, List, [], ◌∷◌, Result, Ok, Err, refl}
 use Rattle.std.proofs.Common.{sym, ap, subst}
-use Rattle.std.specs.Prelude.{Option, Some, None, ◌==◌}
+use Rattle.std.specs.Prelude.{Bool, Option, Some, None, ◌==◌}
 use Rattle.vab_disk.specs.Disk.{Image}
 use Rattle.vab_bootctl.specs.declared.slots.Control.{Control}
 use Rattle.vab_marks.specs.declared.mark.UpdateMark.{UpdateMark}
 use Rattle.vab_marks.specs.declared.mark.MarkPhase.TheVariants as marks
 use Rattle.vab_geometry.specs.declared.geometry.Geometry.{Geometry}
+use Rattle.vab_layout.specs.Layout.{layout_of}
 use Rattle.vab_tables.specs.declared.table.Table.{Table}
 use Rattle.vab_device.specs.declared.fault.StartFault.{StartFault}
 use Rattle.vab_device.specs.Checks.{first_fault, or_else, ◌>>=◌}
 use Rattle.vab_device.specs.Idle.{control_read_of, idle_read}
-use Rattle.vab_device.specs.Phases.{Phase, idle, slot_checks, phase_at, own_check}
+use Rattle.vab_device.specs.Phases.{Phase, idle, slot_checks, phase_at, own_check, overlay_checks}
 use Rattle.vab_device.specs.Reading.{Read, mark_in, statuses_at, control_in, geometry_at, table_at}
 use Rattle.vab_device.specs.Reading.{tables_in, part_fault, state_fault, stores_of, device, Reads}
 use Rattle.vab_device.specs.Reading.{most_at}
@@ -19,6 +20,7 @@ use Rattle.vab_device.specs.Stores.{scans_in}
 use Rattle.vab_device.proofs.OpeningLaws.{device_no_control, device_no_geometry, device_no_tables}
 use Rattle.vab_device.proofs.OpeningLaws.{device_judged, device_stated, reads_of, or_first}
 use Rattle.vab_device.proofs.ReadingLaws.{FrameReads, idle_at}
+use Rattle.vab_device.specs.Phases.{overlay_wanted}
 
 -- where the phase is that one, what is said of it is said of each phase
 of_idle : (m : UpdateMark) (P : Phase → Type 0)
@@ -80,6 +82,7 @@ module _
 
   module _
       (c : Control) (g : Geometry) (t : Table)
+      (plain : m.overlaid ≡ false)
       (control : control_in (m.slot == 0) (m.slot == 1) image ≡ Ok (control_read_of m.slot c))
       (geometry : geometry_at size image ≡ Ok g)
       (table : table_at size g m.slot image ≡ Ok t) where
@@ -105,7 +108,12 @@ module _
         first_fault (p.part_checks (most_at image) (t ∷ []))
         ≡ own_check (most_at image) m.slot t)
         is_idle
-        (or_first (own_check (most_at image) m.slot t))
+        (subst
+        (λ (b : Bool).
+        first_fault
+        (own_check (most_at image) m.slot t ∷ overlay_checks b m.slot (layout_of t))
+        ≡ own_check (most_at image) m.slot t)
+        (sym plain) (or_first (own_check (most_at image) m.slot t)))
 
     state_is : state_fault (idle_read m c g t)
         ≡ first_fault (slot_checks m.slot (control_read_of m.slot c))
@@ -117,7 +125,11 @@ module _
         is_idle refl
 
     no_stores : scans_in (stores_of (idle_read m c g t)) image ≡ Ok []
-    no_stores = of_idle m (λ p. scans_in (p.stores (t ∷ []) []) image ≡ Ok []) is_idle refl
+    no_stores =
+        of_idle m (λ p. scans_in (p.stores (t ∷ []) []) image ≡ Ok []) is_idle
+        (subst
+        (λ (b : Bool). scans_in (overlay_wanted b m.slot (layout_of t)) image ≡ Ok [])
+        (sym plain) refl)
 
     pub idle_judged : (f : StartFault)
         → or_else (own_check (most_at image) m.slot t)

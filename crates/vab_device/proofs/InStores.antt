@@ -2,7 +2,7 @@
 use Rattle.std.proofs.Common.{◌≡◌, inl, inr, ◌⊎◌, ⊎_elim, ℕ, zero, suc, ◌+◌, ◌/◌, ◌<◌, ◌≤◌, List}
 use Rattle.std.proofs.Common.{[], ◌∷◌, length, slice_index, Result, Ok, Err, refl, sym}
 use Rattle.std.proofs.Common.{subst, arith}
-use Rattle.std.specs.Prelude.{Option, Some, None}
+use Rattle.std.specs.Prelude.{◌&&◌, Option, Some, None}
 use Rattle.vab_disk.specs.Disk.{Image}
 use Rattle.vab_disk.specs.Calls.{IsBetween}
 use Rattle.vab_exceptions.specs.declared.area.Exception.{Exception}
@@ -18,9 +18,9 @@ use Rattle.vab_device.specs.declared.fault.StartFault.{StartFault}
 use Rattle.vab_device.specs.Checks.{◌>>=◌}
 use Rattle.vab_device.specs.Mounted.{blocks_there}
 use Rattle.vab_device.specs.Reading.{IsOfBlocks, IsOfScan, IsOfStores}
-use Rattle.vab_device.specs.Stores.{Wanted, Scanned, scan_by, scan_at, scans_in}
+use Rattle.vab_device.specs.Stores.{Wanted, Scanned, scan_by, scan_at, scans_in, scan_read, is_one}
 use Rattle.vab_device.proofs.CheckLaws.{bound}
-use Rattle.vab_device.proofs.StoreLaws.{scan_taken}
+use Rattle.vab_device.proofs.StoreLaws.{scan_taken, clean_taken}
 
 -- a sector of one of these stores
 abbrev pub IsInStores : List (Result Wanted StartFault) → ℕ → Type 0
@@ -67,7 +67,9 @@ scan_in : (w : Wanted) (store : Option (List ℕ)) (image : Image) (x : Scanned)
     → IsOfBlocks (blocks_there store) s
 scan_in w None image x s is here = here
 scan_in w (Some store) image x s is here =
-    let taken = scan_taken w (scan_of w.chunk store (length w.base) image) x is in
+    let read = scan_read w (scan_of w.chunk store (length w.base) image) in
+    let whole = clean_taken (w.clean && is_one w.chunk) w.name store image read x is in
+    let taken = scan_taken w (scan_of w.chunk store (length w.base) image) x whole in
     let was = scan_of_ok store (length w.base) image taken.0 taken.1 in
     reached_in w.chunk store (length w.base) taken.0 s was.fits
     (subst (λ (n : ℕ). IsReached w.chunk store n s) (sym taken.2) here)

@@ -24,3 +24,4 @@ pub mod PhaseCases
 pub mod PartBlocks
 pub mod NamedParts
 pub mod OwnParts
+pub mod OverlayLaws

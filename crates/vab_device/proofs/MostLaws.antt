@@ -1,5 +1,5 @@
 -- Where a slot may have more partitions, the rules that are kept stay kept.
-use Rattle.std.proofs.Common.{◌≡◌, ℕ, ◌≤◌, List, [], ◌∷◌, refl, ap, sym, subst, arith}
+use Rattle.std.proofs.Common.{◌≡◌, ℕ, ◌≤◌, List, [], ◌∷◌, refl, ap, sym, subst, arith, ◌∙◌}
 use Rattle.std.specs.Prelude.{Option, Some, None, Bool, false}
 use Rattle.vab_disk.specs.Disk.{Image}
 use Rattle.vab_marks.specs.declared.mark.MarkPhase.{MarkPhase}
@@ -18,8 +18,9 @@ use Rattle.vab_partitions.proofs.MostLaws.{more_partitions, more_target, more_me
 use Rattle.vab_device.specs.declared.fault.StartFault.TheVariants.{BadTable}
 use Rattle.vab_device.specs.Checks.{Check, check, names_none, or_else, first_fault}
 use Rattle.vab_device.specs.Phases.{phase_in, idle, merging, own_check, twin_check, target_check}
-use Rattle.vab_device.specs.Phases.{no_store_check, merging_check, of_both, update_checks}
+use Rattle.vab_device.specs.Phases.{no_store_check, merging_check, of_both, update_checks, single}
 use Rattle.vab_device.specs.Reading.{Read, version_at, most_at, part_fault}
+use Rattle.vab_device.specs.Phases.{overlay_checks}
 
 named_none : (o : Option (List ℕ)) → names_none o ≡ None → o ≡ None
 named_none None is = refl
@@ -86,6 +87,16 @@ idle_more : (m : UpdateMark) (few most : ℕ) (ts : List Table)
     → first_fault ((idle m).part_checks most ts) ≡ None
 idle_more m few most [] le is = absurd cc
 idle_more m few most (t ∷ ts) le is =
+    let rest : Check = first_fault (overlay_checks m.overlaid m.slot (layout_of t)) in
+    let own = parts_of (own_check few m.slot t) rest is in
+    ap (λ x. or_else x rest) (own_more few most m.slot t le own.0) ∙ own.1
+
+single_more : (m : UpdateMark) (few most : ℕ) (ts : List Table)
+    → few ≤ most
+    → first_fault ((single m).part_checks few ts) ≡ None
+    → first_fault ((single m).part_checks most ts) ≡ None
+single_more m few most [] le is = absurd cc
+single_more m few most (t ∷ ts) le is =
     let own = parts_of (own_check few m.slot t) None is in
     ap (λ x. or_else x None) (own_more few most m.slot t le own.0)
 
@@ -109,7 +120,7 @@ checks_more marks.Installing m few most ts le is =
 checks_more marks.Staged m few most ts le is =
     update_more m.apart few most m.slot ts le is
 checks_more marks.Merging m few most ts le is = merging_phase_more m few most ts le is
-checks_more marks.Completed m few most ts le is = idle_more m few most ts le is
+checks_more marks.Completed m few most ts le is = single_more m few most ts le is
 
 pub parts_more : (r : Read) (few most : ℕ)
     → few ≤ most

@@ -1,8 +1,8 @@
 -- A disk means a device exactly where it is read so.
 use Rattle.std.proofs.Common.{◌≡◌, ◌∙◌, ◌⊎◌, inl, inr, ⊎_elim, ℕ, zero, suc, ◌+◌, ◌<◌, true, false}
-use Rattle.std.proofs.Common.{List}
+use Rattle.std.proofs.Common.{List, IsTrue}
 use Rattle.std.proofs.Common.{[], ◌∷◌, length, Result, Ok, Err, refl, sym, ap, subst, arith}
-use Rattle.std.specs.Prelude.{Bool, Some, None, is_some, nat_le, ◌==◌}
+use Rattle.std.specs.Prelude.{◌||◌, not, Bool, Some, None, is_some, nat_le, ◌==◌}
 use Rattle.std.proofs.lemmas.Bool.{cases_Bool}
 use Rattle.vab_disk.specs.Disk.{Image}
 use Rattle.vab_bootctl.specs.declared.slots.Control.{Control}
@@ -19,7 +19,7 @@ use Rattle.vab_model.proofs.SeenLaws.{seen_again}
 use Rattle.vab_device.specs.declared.fault.StartFault.{StartFault}
 use Rattle.vab_device.specs.declared.fault.StartFault.TheVariants.{TooSmall, BadMark, BadState}
 use Rattle.vab_marks.specs.declared.sector.MarkFault.{MarkFault}
-use Rattle.vab_marks.specs.Mark.{mark_of, MayStandApart, rephased}
+use Rattle.vab_marks.specs.Mark.{mark_of, FlagsFit, rephased, may_stand_apart, is_idle}
 use Rattle.vab_model.specs.declared.state.Phase.TheVariants as phases
 use Rattle.vab_device.specs.declared.device.Device.{Device}
 use Rattle.vab_device.specs.Checks.{Check, check, or_else, first_fault, ◌>>=◌}
@@ -36,8 +36,9 @@ use Rattle.vab_device.specs.Reading.{table_at, tables_in, framed, frame, part_fa
 use Rattle.vab_device.specs.Reading.{judged, stated, table_for, parts_for, kept, device}
 use Rattle.vab_device.specs.Reading.{Reads, Represents, SameRead, control_kept}
 use Rattle.vab_device.proofs.CheckLaws.{bound, passed}
-use Rattle.vab_device.proofs.MarkLaws.{mark_slot, rephased_apart}
+use Rattle.vab_device.proofs.MarkLaws.{mark_slot, rephased_fits, mark_flags}
 use Rattle.vab_device.proofs.MostLaws.{parts_more}
+use Rattle.vab_device.specs.Mounted.{overlay_on}
 
 -- ---- where it is read it means so
 
@@ -264,16 +265,18 @@ pub state_same : (d : Device) (old new : Image)
     → images_on new d.a ≡ images_on old d.a
     → images_on new d.b ≡ images_on old d.b
     → entries_on new d.plan ≡ entries_on old d.plan
+    → overlay_on new d.overlay ≡ overlay_on old d.overlay
     → state_on d new ≡ state_on d old
 unfolding state_on
-state_same d old new a b plan = rw (a, b, plan) refl
+state_same d old new a b plan overlay = rw (a, b, plan, overlay) refl
 
 pub mounted_same : (d : Device) (old new : Image)
     → images_on new d.a ≡ images_on old d.a
     → images_on new d.b ≡ images_on old d.b
     → entries_on new d.plan ≡ entries_on old d.plan
+    → overlay_on new d.overlay ≡ overlay_on old d.overlay
     → mounted_on d new ≡ mounted_on d old
-mounted_same d old new a b plan = rw (state_same d old new a b plan) refl
+mounted_same d old new a b plan overlay = rw (state_same d old new a b plan overlay) refl
 
 -- A disk that is read the same means the same.
 pub device_same : (size : ℕ) (r : Read) (old new : Image)
@@ -282,7 +285,8 @@ pub device_same : (size : ℕ) (r : Read) (old new : Image)
     → device size new ≡ device size old
 device_same size r old new reads same =
     device_of size r new (reads_kept size r old new reads same)
-    ∙ ap Ok (mounted_same (kept r) old new same.images_a same.images_b same.plan)
+    ∙ ap Ok
+    (mounted_same (kept r) old new same.images_a same.images_b same.plan same.overlay)
     ∙ sym (device_of size r old reads)
 
 -- ---- the phases
@@ -402,7 +406,7 @@ known_by marks.Completed = inl refl
 
 known_of : (x : Result UpdateMark MarkFault) (r : UpdateMark) → mark_read x ≡ Ok r → IsPhase r.phase
 known_of (Ok m) r is =
-    let e : rephased (settled m.phase) m ≡ r = cc in
+    let e : record m { phase = settled m.phase } ≡ r = cc in
     subst (λ (x : UpdateMark). IsPhase x.phase) e (known_by m.phase)
 known_of (Err fault) r is =
     absurd (let bad : (let x : Result UpdateMark StartFault = Err (BadMark 2048) in x ≡ Ok r) =
@@ -418,26 +422,37 @@ slot_read : (bytes : List ℕ) (x : Result UpdateMark MarkFault) (r : UpdateMark
     → mark_read x ≡ Ok r
     → r.slot < 2
 slot_read bytes (Ok m) r of is =
-    let e : rephased (settled m.phase) m ≡ r = cc in
+    let e : record m { phase = settled m.phase } ≡ r = cc in
     subst (λ (x : UpdateMark). x.slot < 2) e (mark_slot bytes m of)
 slot_read bytes (Err fault) r of is =
     absurd (let bad : (let x : Result UpdateMark StartFault = Err (BadMark 2048) in x ≡ Ok r) =
     is in cc)
 
--- a target stands apart in the phases alone in which one may
-apart_read : (x : Result UpdateMark MarkFault) (r : UpdateMark)
+settled_flags : (p : MarkPhase) (apart overlaid : Bool)
+    → IsTrue (may_stand_apart p || not apart) × IsTrue (is_idle p || not overlaid)
+    → IsTrue (may_stand_apart (settled p) || not apart)
+    × IsTrue (is_idle (settled p) || not overlaid)
+settled_flags marks.Idle apart overlaid fits = fits
+settled_flags marks.Installing apart overlaid fits = fits
+settled_flags marks.Staged apart overlaid fits = fits
+settled_flags marks.Merging apart overlaid fits = fits
+settled_flags marks.Completed apart overlaid fits = (fits.0, refl)
+
+-- a flag is on in the phases alone that have it
+flags_read : (bytes : List ℕ) (x : Result UpdateMark MarkFault) (r : UpdateMark)
+    → mark_of bytes ≡ x
     → mark_read x ≡ Ok r
-    → MayStandApart r
-apart_read (Ok m) r is =
-    let e : rephased (settled m.phase) m ≡ r = cc in
-    subst MayStandApart e (rephased_apart (settled m.phase) m)
-apart_read (Err fault) r is =
+    → FlagsFit r
+flags_read bytes (Ok m) r of is =
+    let e : record m { phase = settled m.phase } ≡ r = cc in
+    subst FlagsFit e (settled_flags m.phase m.apart m.overlaid (mark_flags bytes m of))
+flags_read bytes (Err fault) r of is =
     absurd (let bad : (let x : Result UpdateMark StartFault = Err (BadMark 2048) in x ≡ Ok r) =
     is in cc)
 
-pub apart_known : (image : Image) (m : UpdateMark) → mark_in image ≡ Ok m → MayStandApart m
+pub flags_known : (image : Image) (m : UpdateMark) → mark_in image ≡ Ok m → FlagsFit m
 unfolding mark_in
-apart_known image m is = apart_read (mark_of (image 2048)) m is
+flags_known image m is = flags_read (image 2048) (mark_of (image 2048)) m refl is
 
 pub slot_below : (image : Image) (m : UpdateMark) → mark_in image ≡ Ok m → m.slot < 2
 unfolding mark_in

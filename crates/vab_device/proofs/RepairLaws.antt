@@ -23,8 +23,8 @@ use Rattle.vab_device.specs.Phases.{phase_in, phase_at}
 use Rattle.vab_device.specs.Reading.{Read, tables_in, stores_of, kept, Reads, SameRead}
 use Rattle.vab_device.proofs.SameLaws.{mark_same, control_same, geometry_same, table_same}
 use Rattle.vab_device.proofs.SameLaws.{images_same, version_same, most_same}
-use Rattle.vab_device.proofs.StoreLaws.{statuses_kept, stores_kept, plan_kept}
-use Rattle.vab_device.proofs.Behind.{images_behind, stores_behind, plan_behind}
+use Rattle.vab_device.proofs.StoreLaws.{statuses_kept, stores_kept, plan_kept, overlay_kept}
+use Rattle.vab_device.proofs.Behind.{images_behind, stores_behind, plan_behind, overlay_behind}
 
 -- where both copies of a slot's table end
 abbrev pub end_of : Geometry → ℕ → ℕ
@@ -172,4 +172,6 @@ repair_same size n k r old new geometry slot k_below fits reads others table =
           (λ s is. behind s (images_behind size (end_of g k) 1 _ _ r old s reads within is));
       plan = plan_kept (kept r).plan old new
           (λ s is. behind s (plan_behind size (end_of g k) r old s reads within is));
+      overlay = overlay_kept (kept r).overlay old new
+          (λ s is. behind s (overlay_behind size (end_of g k) r old s reads within is));
     }

@@ -30,7 +30,7 @@ use Rattle.vab_device.specs.Reading.{kept, Reads, SameRead, Dead}
 use Rattle.vab_device.specs.Reading.{stores_of, IsOfTables, IsOfParts, IsOfImages}
 use Rattle.vab_device.specs.Reading.{Live, Agrees, Misses}
 use Rattle.vab_device.proofs.BlockLaws.{bytes_same}
-use Rattle.vab_device.proofs.StoreLaws.{statuses_kept, stores_kept, plan_kept}
+use Rattle.vab_device.proofs.StoreLaws.{statuses_kept, stores_kept, plan_kept, overlay_kept}
 
 -- ---- single parts
 
@@ -140,6 +140,7 @@ agrees_same size r old new reads agrees = record {
   images_a = images_same old new (kept r).a (λ s is. agrees s (Live.of_images_a is));
   images_b = images_same old new (kept r).b (λ s is. agrees s (Live.of_images_b is));
   plan = plan_kept (kept r).plan old new (λ s is. agrees s (Live.of_plan is));
+  overlay = overlay_kept (kept r).overlay old new (λ s is. agrees s (Live.of_overlay is));
 }
 
 -- The second: writes that miss them are dead.

@@ -6,7 +6,7 @@ use Rattle.vab_gate.proofs.Blocks.{sectors_same}
 use Rattle.vab_marks.specs.declared.mark.MarkPhase.{MarkPhase}
 use Rattle.vab_marks.specs.declared.mark.UpdateMark.{UpdateMark}
 use Rattle.vab_marks.specs.declared.version.MarkVersion.TheVariants.{Two}
-use Rattle.vab_marks.specs.Mark.{mark_of, mark_spelling, MayStandApart, rephased}
+use Rattle.vab_marks.specs.Mark.{mark_of, mark_spelling, FlagsFit, rephased}
 use Rattle.vab_marks.specs.Version.{version_in}
 use Rattle.vab_marks.proofs.MarkLaws.{version_spelled}
 use Rattle.vab_geometry.specs.declared.geometry.Geometry.{Geometry}
@@ -17,13 +17,12 @@ use Rattle.vab_device.specs.Checks.{◌>>=◌}
 use Rattle.vab_device.specs.Reading.{settled, mark_read, mark_in, version_at, table_at, tables_in}
 use Rattle.vab_device.specs.Reading.{IsOfTables}
 use Rattle.vab_device.proofs.CheckLaws.{bound}
-use Rattle.vab_device.proofs.MarkLaws.{rephased_again}
 
 -- ---- the mark
 
 pub mark_there : (m : UpdateMark) (image : Image)
     → settled m.phase ≡ m.phase
-    → MayStandApart m
+    → FlagsFit m
     → mark_of (mark_spelling m) ≡ Ok m
     → image 2048 ≡ mark_spelling m
     → mark_in image ≡ Ok m
@@ -31,8 +30,7 @@ unfolding mark_in
 mark_there m image stays apart read same =
     ap (λ (b : List ℕ). mark_read (mark_of b)) same
     ∙ ap mark_read read
-    ∙ ap (λ (p : MarkPhase). Ok (rephased p m)) stays
-    ∙ ap Ok (rephased_again m apart)
+    ∙ ap (λ (p : MarkPhase). Ok (record m { phase = p })) stays
 
 pub version_there : (m : UpdateMark) (image : Image)
     → image 2048 ≡ mark_spelling m

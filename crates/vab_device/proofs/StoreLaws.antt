@@ -1,12 +1,17 @@
 -- Stores whose sectors stay are read the same.
 use Rattle.std.proofs.Common.{◌≡◌, ◌∙◌, inl, inr, ℕ, List, [], ◌∷◌, length, Result, Ok, Err, refl}
 use Rattle.std.proofs.Common.{sym, ap, subst}
-use Rattle.std.specs.Prelude.{Bool, true, false, map, Option, Some, None}
+use Rattle.std.specs.Prelude.{Bool, true, false, ◌&&◌, map, Option, Some, None}
 use Rattle.std.proofs.lemmas.Bool.{cases_Bool}
 use Rattle.vab_disk.specs.Disk.{Image}
 use Rattle.vab_exceptions.specs.declared.area.Exception.{Exception}
 use Rattle.vab_store.specs.declared.fault.StoreFault.{StoreFault}
+use Rattle.vab_space.specs.declared.Chunk.{Chunk}
+use Rattle.vab_space.specs.declared.Chunk.TheVariants.{One, Two, Four}
+use Rattle.vab_store.specs.Clean.{ends_clean}
+use Rattle.vab_store.specs.Reached.{IsReached}
 use Rattle.vab_store.specs.Scan.{scan_of}
+use Rattle.vab_store.proofs.CleanLaws.{clean_kept}
 use Rattle.vab_store.proofs.ReachedLaws.{scan_kept}
 use Rattle.vab_statuses.specs.Statuses.{IsOfStatuses}
 use Rattle.vab_statuses.specs.Statuses.{statuses_under}
@@ -16,12 +21,14 @@ use Rattle.vab_device.specs.declared.fault.StartFault.TheVariants.{BadStore}
 use Rattle.vab_device.specs.declared.device.Part.{Part}
 use Rattle.vab_device.specs.declared.device.PartImage.{PartImage}
 use Rattle.vab_device.specs.declared.device.PartImage.TheVariants.{Kept, Declared, Written}
-use Rattle.vab_device.specs.Checks.{◌>>=◌}
+use Rattle.vab_device.specs.Checks.{◌>>=◌, unless}
 use Rattle.vab_device.specs.Mounted.{written_sectors, planned_on, entry_on, entries_on}
+use Rattle.vab_device.specs.Mounted.{blocks_there, blocks_over, sectors_read, overlay_on}
 use Rattle.vab_device.specs.Reading.{version_at, statuses_read, statuses_at}
 use Rattle.vab_device.specs.Reading.{IsOfScan, IsOfStores}
-use Rattle.vab_device.specs.Reading.{IsOfWritten, IsOfPlanned, IsOfPlan}
-use Rattle.vab_device.specs.Stores.{Wanted, Scanned, is_long, scan_read, scan_by, scan_at, scans_in}
+use Rattle.vab_device.specs.Reading.{IsOfWritten, IsOfPlanned, IsOfPlan, IsOfOverlay}
+use Rattle.vab_device.specs.Stores.{Wanted, Scanned, is_long, scan_read, clean_by, is_one, scan_by}
+use Rattle.vab_device.specs.Stores.{scan_at, scans_in}
 use Rattle.vab_device.proofs.CheckLaws.{bound}
 use Rattle.vab_device.proofs.BlockLaws.{bytes_same}
 
@@ -59,16 +66,60 @@ scan_taken w (Err fault) s is =
     absurd (let bad : (let r : Result Scanned StartFault = Err (BadStore w.name) in r ≡ Ok s) =
     is in cc)
 
+-- one that ends clean, where that is asked, is one as well
+pub clean_taken : (clean : Bool) (name store : List ℕ) (image : Image)
+    (x : Result Scanned StartFault) (s : Scanned)
+    → clean_by clean name store image x ≡ Ok s
+    → x ≡ Ok s
+clean_taken false name store image x s is = is
+clean_taken true name store image (Err fault) s is = is
+clean_taken true name store image (Ok y) s is =
+    elim (cases_Bool (ends_clean store (length y.exceptions) image)) [
+      | inl clean ↦ (rw clean at is)
+      | inr not_clean ↦
+          let none : (let r : Result Scanned StartFault = Err (BadStore name) in r ≡ Ok s) =
+          (rw not_clean at is) in
+          absurd cc
+    ]
+
+-- where the list's page ends alike, it is asked alike
+clean_same : (clean : Bool) (name store : List ℕ) (old new : Image)
+    (x : Result Scanned StartFault) (s : Scanned)
+    → x ≡ Ok s
+    → ends_clean store (length s.exceptions) new ≡ ends_clean store (length s.exceptions) old
+    → clean_by clean name store new x ≡ clean_by clean name store old x
+clean_same false name store old new x s is same = refl
+clean_same true name store old new x s is same =
+    ap (clean_by true name store new) is
+    ∙ ap (λ (b : Bool). unless b (BadStore name) (Ok s)) same
+    ∙ sym (ap (clean_by true name store old) is)
+
+by_chunk : (asked : Bool) (k : Chunk) (name store : List ℕ) (old new : Image)
+    (x : Result Scanned StartFault) (s : Scanned)
+    → x ≡ Ok s
+    → ((a : ℕ) → IsReached k store (length s.exceptions) a → new a ≡ old a)
+    → clean_by (asked && is_one k) name store new x ≡ clean_by (asked && is_one k) name store old x
+by_chunk false k name store old new x s is same = refl
+by_chunk true One name store old new x s is same =
+    clean_same true name store old new x s is
+    (clean_kept store (length s.exceptions) old new same)
+by_chunk true Two name store old new x s is same = refl
+by_chunk true Four name store old new x s is same = refl
+
 scan_by_kept : (w : Wanted) (store : Option (List ℕ)) (old new : Image) (x : Scanned)
     → ((s : ℕ) → IsOfScan w.chunk store (length x.exceptions) s → new s ≡ old s)
     → scan_by w store old ≡ Ok x
     → scan_by w store new ≡ scan_by w store old
 scan_by_kept w None old new x same is = refl
 scan_by_kept w (Some store) old new x same is =
-    let taken = scan_taken w (scan_of w.chunk store (length w.base) old) x is in
+    let read = scan_read w (scan_of w.chunk store (length w.base) old) in
+    let clean : Bool = w.clean && is_one w.chunk in
+    let was = clean_taken clean w.name store old read x is in
+    let taken = scan_taken w (scan_of w.chunk store (length w.base) old) x was in
     let new_is = scan_kept w.chunk store (length x.exceptions) old new same (length w.base)
     taken.0 taken.2 taken.1 in
-    ap (scan_read w) (new_is ∙ sym taken.1)
+    ap (λ y. clean_by clean w.name store new (scan_read w y)) (new_is ∙ sym taken.1)
+    ∙ by_chunk w.clean w.chunk w.name store old new read x was same
 
 store_kept : (w : Wanted) (old new : Image) (x : Scanned)
     → ((s : ℕ) → IsOfScan w.chunk w.store (length x.exceptions) s → new s ≡ old s)
@@ -113,6 +164,20 @@ planned_kept (p ∷ ps) old new same =
     let here : entry_on new p ≡ entry_on old p = rw image refl in
     let rest = planned_kept ps old new (λ s is. same s (inr is)) in
     (λ i. here i ∷ rest i)
+
+-- the one that is overlaid
+pub overlay_kept : (overlay : Option Part) (old new : Image)
+    → ((s : ℕ) → IsOfOverlay overlay s → new s ≡ old s)
+    → overlay_on new overlay ≡ overlay_on old overlay
+overlay_kept None old new same = refl
+overlay_kept (Some p) old new same =
+    ap (λ (bytes : List ℕ). Some (record {
+      name = p.name;
+      store = length (blocks_there p.store);
+      blocks = blocks_over p.image;
+      bytes = bytes;
+    }))
+    (bytes_same old new (sectors_read p) same)
 
 pub plan_kept : (plan : Option (List Part)) (old new : Image)
     → ((s : ℕ) → IsOfPlan plan s → new s ≡ old s)

@@ -1,7 +1,7 @@
 -- Memory may be refused in place of an edit's, a begin's or a flash's effect, where its reply is
 -- that it is done or that the table is full. No command of a verb takes memory. Of a wipe this says
 -- nothing.
-use Rattle.std.proofs.Common.{◌≡◌, ◌≢◌, ◌∙◌, ℕ, ◌*◌, ◌^◌, Bool, true, false, cond, List, []}
+use Rattle.std.proofs.Common.{◌≡◌, ◌≢◌, ◌∙◌, ℕ, ◌+◌, ◌*◌, ◌^◌, Bool, true, false, cond, List, []}
 use Rattle.std.proofs.Common.{length, sym, Option, Result, Ok, Err, Some, None, refl, subst}
 use Rattle.std.specs.Prelude.{◌==◌, not, nat_lt, nat_le, is_some}
 use Rattle.vab_bootctl.specs.Boot.{info_at}
@@ -24,10 +24,20 @@ use Rattle.vab_model.specs.declared.command.Reply.{Reply}
 use Rattle.vab_model.specs.declared.command.Reply.TheVariants as replies
 use Rattle.vab_model.specs.Commands.{Command, SetActive, Boot, Mark, Print, Digest, Begin, Create}
 use Rattle.vab_model.specs.Commands.{Resize, Delete, Snapshot, Flash, Finish, Cancel, BeginMerge}
-use Rattle.vab_model.specs.Commands.{Merge, Factory, UpdateSuper}
+use Rattle.vab_model.specs.Commands.{Merge, Factory, UpdateSuper, Overlay as OverlayOf}
+use Rattle.vab_model.specs.Commands.{OverlayWrite, OverlayDiscard}
 use Rattle.vab_model.specs.Effects.{Effect, refuses, does, active_effect, print_effect}
 use Rattle.vab_model.specs.Effects.{digest_effect, Found, Image_is, Refused_by, found_of}
-use Rattle.vab_model.specs.Effects.{effect_map, wanting}
+use Rattle.vab_model.specs.Effects.{effect_map, wanting, if_plain}
+use Rattle.vab_model.specs.Overlay as over
+use Rattle.vab_model.specs.Overlay.{overlay_image, store_of_size, used_over, is_store_size}
+use Rattle.vab_model.specs.Overlay.{write_staged, write_row, discard_row, with_overlay}
+use Rattle.vab_model.specs.Over.{written_over}
+use Rattle.vab_model.specs.Plans.{blocks_in, bytes_named, images_of}
+use Rattle.vab_model.specs.State.{image_named}
+use Rattle.vab_model.specs.declared.state.Image.{Image}
+use Rattle.vab_model.specs.declared.state.Overlay.{Overlay}
+use Rattle.vab_space.specs.Space.{need_of}
 use Rattle.vab_model.specs.Machine.{machine_effect, unless, cancelled as cancelled_state}
 use Rattle.vab_model.specs.Machine.{merging_from as merging_state}
 use Rattle.vab_model.specs.Kinds.{IsVerb}
@@ -48,6 +58,7 @@ use Rattle.vab_device.specs.Updates.{edit_effect, no_guard, settled_guard, store
 use Rattle.vab_device.specs.Updates.{create_edit, resize_edit, delete_edit, snapshot_edit}
 use Rattle.vab_device.specs.Updates.{cancelled, cancel_effect, finish_effect, complete_effect}
 use Rattle.vab_device.specs.Updates.{begin_merge_effect, merging_from, merge_effect, effect_on}
+use Rattle.vab_device.specs.Updates.{over_effect, over_table, overlay_begun}
 use Rattle.vab_device.proofs.FlashedLaws.{flash_by_blocks}
 
 -- a reply in whose place memory may be refused
@@ -124,6 +135,58 @@ module _ (m : Mounted) where
       (layout_at m.places (other_slot source)))
   edits guard edit _ = refused refusals.NotInstalling
 
+  -- ---- an overlay
+
+  plain_told : (o : Option Overlay) (next : Effect Mounted)
+      → TellsWanted next
+      → TellsWanted (if_plain o next)
+  plain_told None next told = told
+  plain_told (Some o) next told = refused refusals.NotIdle
+
+  unless_told : (b : Bool) (r : Refusal) (next : Effect Mounted)
+      → TellsWanted next
+      → TellsWanted (over.unless b r next)
+  unless_told true r next told = told
+  unless_told false r next told = refused r
+
+  over_told : (image : Image) (store : ℕ) (r : Result Layout EditFault)
+      → TellsWanted (over_effect m image store r)
+  over_told image store (Ok l) wants = refl
+  over_told image store (Err (faults.TableFull size most)) wants = refl
+  over_told image store (Err _) wants = absurd cc
+
+  over_table_told : (name : List ℕ) (slot : ℕ) (l : Option Layout) (image : Image) (store : ℕ)
+      → TellsWanted (over_table m name slot l image store)
+  over_table_told name slot None image store = refused refusals.NoImages
+  over_table_told name slot (Some l) image store = over_told image store _
+
+  over_image_told : (images : List Image) (size : ℕ) (next : Image → ℕ → Effect Mounted)
+      → ((image : Image) (store : ℕ) → TellsWanted (next image store))
+      → (i : Option Image)
+      → TellsWanted (overlay_image m.state.cap images size next i)
+  over_image_told images size next told None = refused refusals.Unknown
+  over_image_told images size next told (Some i) =
+      let store : ℕ = store_of_size (blocks_in i.bytes) size in
+      unless_told (nat_le (used_over images store) m.state.cap)
+      (refusals.NoRoom (used_over images store) m.state.cap)
+      (next i store) (told i store)
+
+  over_begins : (name : List ℕ) (size : ℕ) (phase : Phase)
+      → TellsWanted (overlay_begun m name size phase)
+  over_begins name size Idle =
+      let current : ℕ = m.state.control.current in
+      let next : Image → ℕ → Effect Mounted =
+      over_table m name current (layout_at m.places current) in
+      let image : Option Image = image_named (base_of name) (images_of m.state current) in
+      let found : Effect Mounted =
+      overlay_image m.state.cap (images_of m.state current) size next image in
+      unless_told (is_full current name) refusals.BadName
+      (over.unless (is_store_size size) refusals.BadSize found)
+      (unless_told (is_store_size size) refusals.BadSize found
+      (over_image_told (images_of m.state current) size next
+      (over_table_told name current (layout_at m.places current)) image))
+  over_begins name size _ = refused refusals.NotIdle
+
   -- ---- an image
 
   roomed : (source : ℕ) (plan : Plan) (e : PlanEntry) (store : ℕ) (k : Chunk)
@@ -194,6 +257,40 @@ module _ (m : Mounted) where
       (found source plan k staged e)
       (refused refusals.BadName)
   flashes staged name k _ = refused refusals.NotInstalling
+
+  -- ---- a block, and the end of an overlay
+
+  mapped_unless : (b : Bool) (r : Refusal) (next : Effect State)
+      → TellsWanted (effect_map (in_state m) next)
+      → TellsWanted (effect_map (in_state m) (over.unless b r next))
+  mapped_unless true r next told = told
+  mapped_unless false r next told = refused r
+
+  blocks : (o : Overlay) (block : ℕ) (staged : Option (List ℕ))
+      → TellsWanted (effect_map (in_state m) (write_staged m.state o block staged))
+  blocks o block None = refused refusals.NothingStaged
+  blocks o block (Some bytes) =
+      let count : ℕ = blocks_in o.bytes in
+      let need : ℕ = need_of (length o.blocks + 1) in
+      let done : Effect State = wanting true
+      (does replies.Done (with_overlay m.state (Some (written_over block bytes o)))) in
+      let room : Effect State =
+      over.unless (nat_le need o.store) (refusals.StoreFull need o.store) done in
+      let inside : Effect State =
+      over.unless (nat_lt block count) (refusals.BadBlock block count) room in
+      mapped_unless (length bytes == 4096) (refusals.BadLength (length bytes)) inside
+      (mapped_unless (nat_lt block count) (refusals.BadBlock block count) room
+      (mapped_unless (nat_le need o.store) (refusals.StoreFull need o.store) done (λ wants. refl)))
+
+  writes : (staged : Option (List ℕ)) (block : ℕ) (o : Option Overlay)
+      → TellsWanted (effect_map (in_state m) (write_row m.state staged block o))
+  writes staged block None = refused refusals.NotOverlaid
+  writes staged block (Some o) = blocks o block staged
+
+  discards : (o : Option Overlay)
+      → TellsWanted (effect_map (in_state m) (discard_row m.state o))
+  discards None wants = absurd cc
+  discards (Some o) wants = absurd cc
 
   -- ---- commands that want nothing
 
@@ -281,8 +378,11 @@ module _ (m : Mounted) where
   pub wants_told : (staged : Option (List ℕ)) (c : Command)
       → c ≢ UpdateSuper
       → TellsWanted (effect_on m staged c)
-  wants_told staged Begin other = begins false m.state.phase
-  wants_told staged Factory other = begins true m.state.phase
+  unfolding machine_effect
+  wants_told staged Begin other =
+      plain_told m.state.overlay (begin_effect m false m.state.phase) (begins false m.state.phase)
+  wants_told staged Factory other =
+      plain_told m.state.overlay (begin_effect m true m.state.phase) (begins true m.state.phase)
   wants_told staged (Create name size) other =
       edits no_guard (create_edit name size) m.state.phase
   wants_told staged (Resize name size) other =
@@ -305,3 +405,8 @@ module _ (m : Mounted) where
   wants_told staged BeginMerge other = verb_told staged BeginMerge refl
   wants_told staged (Merge blocks) other = verb_told staged (Merge blocks) refl
   wants_told staged UpdateSuper other = absurd (other refl)
+  wants_told staged (OverlayOf name size) other =
+      plain_told m.state.overlay (overlay_begun m name size m.state.phase)
+      (over_begins name size m.state.phase)
+  wants_told staged (OverlayWrite block) other = writes staged block m.state.overlay
+  wants_told staged OverlayDiscard other = discards m.state.overlay

@@ -2,13 +2,16 @@
 use Rattle.std.specs.Prelude.{◌≡◌, ◌≢◌, ◌⊎◌, ℕ, ◌+◌, ◌-◌, ◌*◌, ◌≤◌, ◌<◌, ◌==◌, ◌&&◌, ◌^◌}
 use Rattle.std.specs.Prelude.{Bool, true, false, nat_le, if◌then◌else◌, List, map, length}
 use Rattle.std.specs.Prelude.{Option, Some, None, is_some, All, AllPairs, Contains, IsTrue, not, []}
+use Rattle.std.specs.Prelude.{◌∷◌}
 use Rattle.std.specs.Str.{bytes_eq}
 use Rattle.vab_names.specs.Names.{is_base, base_of, store_group_name}
 use Rattle.vab_names.specs.Names.{most_partitions}
 use Rattle.vab_bootctl.specs.Control.{Fits as FitsControl}
 use Rattle.vab_marks.specs.declared.mark.MarkPhase.{MarkPhase}
 use Rattle.vab_marks.specs.declared.mark.MarkPhase.TheVariants as marks
-use Rattle.vab_marks.specs.Mark.{MayStandApart}
+use Rattle.vab_marks.specs.Mark.{FlagsFit}
+use Rattle.vab_exceptions.specs.declared.area.Exception.{Exception}
+use Rattle.vab_space.specs.declared.Chunk.TheVariants.{One}
 use Rattle.vab_store.specs.View.{Fits}
 use Rattle.vab_tables.specs.declared.entries.BlockDevice.{BlockDevice}
 use Rattle.vab_tables.specs.declared.table.Table.{Table}
@@ -187,16 +190,40 @@ phase_kind d = kind_of d.mark.phase d.mark.slot
 abbrev pub parts_at : Device → ℕ → Option (List Part)
 parts_at d slot = if slot == 0 then d.a else d.b
 
+-- ---- an overlay
+
+-- the first partition of this base name
+abbrev pub part_named : List ℕ → List Part → Option Part
+part_named base [] = None
+part_named base (p ∷ ps) = if bytes_eq p.name base then Some p else part_named base ps
+
+-- The overlaid partition of a slot with these: the first of them with its name, with exceptions in
+-- chunks of one block, and a store that has no block of any.
+pub record IsOverlaidOn (size : ℕ) (parts : List Part) (p : Part) : Type 0 where
+  pub part : IsPart size p
+  pub store : List ℕ
+  pub exceptions : List Exception
+  pub stored : p.store ≡ Some store
+  pub written : p.image ≡ Written One exceptions
+  pub base : part_named p.name parts ≡ Some (record p { store = None; image = Kept })
+  pub apart : All (λ q. (s : ℕ) → Contains q.map s → Contains store s → ⊥) parts
+
+abbrev pub IsOverlay : ℕ → Option (List Part) → Option Part → Type 0
+IsOverlay size parts None = Unit {0}
+IsOverlay size None (Some p) = ⊥
+IsOverlay size (Some parts) (Some p) = IsOverlaidOn size parts p
+
 -- On a disk of so many sectors. The slot of the mark has images and a table, and it is current, or
 -- the other is where that has images as well. While an update is installed, the other has a table,
--- and its partitions are planned; where the update is ready, it has images.
+-- and its partitions are planned; where the update is ready, it has images. Where the mark says so,
+-- one of the slot's partitions is overlaid.
 pub record IsDevice (d : Device) (size : ℕ) : Type 0 where
   pub enough : 4120 ≤ size
   pub geometry : IsGeometry d.geometry
   pub control : FitsControl d.control
   pub phase : IsPhase d.mark.phase
   pub slot : d.mark.slot < 2
-  pub apart : MayStandApart d.mark
+  pub flags : FlagsFit d.mark
   pub current : has_slot d.mark.phase d.mark.slot d.control.current ≡ true
   pub has_a : is_some d.a ≡ has_slot d.mark.phase d.mark.slot 0
   pub has_b : is_some d.b ≡ has_slot d.mark.phase d.mark.slot 1
@@ -213,3 +240,5 @@ pub record IsDevice (d : Device) (size : ℕ) : Type 0 where
       d.mark.slot
       (table_of_slot d d.mark.slot)
       (table_of_slot d (other_slot d.mark.slot))
+  pub overlaid : is_some d.overlay ≡ d.mark.overlaid
+  pub overlay : IsOverlay size (parts_at d d.mark.slot) d.overlay

@@ -21,6 +21,7 @@ use Rattle.vab_model.specs.declared.state.Image.{Image as ImageOfSlot}
 use Rattle.vab_model.specs.declared.state.PlanImage.{PlanImage}
 use Rattle.vab_model.specs.declared.state.PlanImage.TheVariants as planned
 use Rattle.vab_model.specs.declared.state.PlanEntry.{PlanEntry}
+use Rattle.vab_model.specs.declared.state.Overlay.{Overlay}
 use Rattle.vab_model.specs.declared.state.State.{State}
 use Rattle.vab_model.specs.declared.state.Phase.{Phase}
 use Rattle.vab_model.specs.declared.state.Phase.TheVariants.{Idle, Installing, Staged, Merging}
@@ -102,6 +103,26 @@ abbrev pub entries_on : Image → Option (List Part) → Option (List PlanEntry)
 entries_on image None = None
 entries_on image (Some plan) = Some (map (entry_on image) plan)
 
+-- ---- an overlay
+
+-- the blocks of a store's exceptions
+abbrev pub blocks_over : PartImage → List ℕ
+blocks_over Kept = []
+blocks_over Declared = []
+blocks_over (Written k es) = map (λ e. e.old_chunk) es
+
+abbrev pub overlay_by : Image → Part → Overlay
+overlay_by image p = record {
+  name = p.name;
+  store = length (blocks_there p.store);
+  blocks = blocks_over p.image;
+  bytes = bytes_at image (sectors_read p);
+}
+
+abbrev pub overlay_on : Image → Option Part → Option Overlay
+overlay_on image None = None
+overlay_on image (Some p) = Some (overlay_by image p)
+
 -- ---- how much is left to merge
 
 -- the exceptions of a partition's store
@@ -153,6 +174,7 @@ state_on d image = record {
   a = images_on image d.a;
   b = images_on image d.b;
   phase = phase_on d image;
+  overlay = overlay_on image d.overlay;
 }
 
 abbrev pub table_placed : ℕ → Bool → Option Table → Option Layout

@@ -1,6 +1,7 @@
 -- A phase of an update: what it reads of a disk, and what it asks of that.
 use Rattle.std.specs.Prelude.{ℕ, ◌==◌, Bool, true, false, not, ◌&&◌, ◌||◌, List, [], ◌∷◌, map}
-use Rattle.std.specs.Prelude.{Option, Some, None, Result, option_map, if◌then◌else◌}
+use Rattle.std.specs.Prelude.{Option, Some, None, Result, Ok, option_map, is_some, length}
+use Rattle.std.specs.Prelude.{if◌then◌else◌}
 use Rattle.std.specs.List.{list_all}
 use Rattle.vab_bootctl.specs.declared.slots.Info.{Info}
 use Rattle.vab_bootctl.specs.declared.slots.Control.{Control}
@@ -15,6 +16,8 @@ use Rattle.vab_layout.specs.declared.layout.Part.{Part as PartOfLayout}
 use Rattle.vab_layout.specs.declared.layout.Layout.{Layout}
 use Rattle.vab_layout.specs.Layout.{layout_of}
 use Rattle.vab_layout.specs.Slots.{other_slot, own_parts, is_updated, twins_by}
+use Rattle.vab_layout.specs.Overlay.{Overlaid, overlaid_in, is_apart}
+use Rattle.vab_space.specs.declared.Chunk.TheVariants.{One}
 use Rattle.vab_partitions.specs.Rules.{bad_part}
 use Rattle.vab_partitions.specs.TargetRules.{bad_beside}
 use Rattle.vab_partitions.specs.MergingRules.{bad_merging_of}
@@ -47,6 +50,8 @@ pub record Phase : Type 0 where
   pub stores : List Table → List PartStatus → List (Result Wanted StartFault)
   -- the partitions that are planned
   pub plan : List Table → List Scanned → Option (List Part)
+  -- the one that is overlaid
+  pub overlay : List Table → List Scanned → Option Part
 
 -- a slot may be booted as one that works
 abbrev pub is_good : Info → Bool
@@ -71,9 +76,9 @@ slot_checks slot c =
     ∷ check (is_good (info_at c slot)) (BadState 2)
     ∷ []
 
--- no update: the slot of the mark alone has images
-abbrev pub idle : UpdateMark → Phase
-idle m = record {
+-- the slot of the mark alone has images
+abbrev pub single : UpdateMark → Phase
+single m = record {
   tables = m.slot ∷ [];
   has_a = m.slot == 0;
   has_b = m.slot == 1;
@@ -83,6 +88,75 @@ idle m = record {
   state_checks = λ c ts scanned. slot_checks m.slot c;
   stores = λ ts statuses. [];
   plan = λ ts scanned. None;
+  overlay = λ ts scanned. None;
+}
+
+-- ---- no update, and an overlay or none
+
+-- the store over a partition, where a block of it stands twice, or in a partition of the slot
+abbrev pub bad_overlay : (slot : ℕ) → List PartOfLayout → Option Overlaid → Option (List ℕ)
+bad_overlay slot parts None = None
+bad_overlay slot parts (Some o) = if is_apart slot parts o.store then None else Some o.store.name
+
+-- exactly one partition is overlaid, and its store stands apart
+abbrev pub overlay_checks : (overlaid : Bool) → (slot : ℕ) → Layout → List Check
+overlay_checks false slot l = []
+overlay_checks true slot l =
+    check (is_some (overlaid_in slot l.parts)) (BadState 4)
+    ∷ names_none (bad_overlay slot l.parts (overlaid_in slot l.parts))
+    ∷ []
+
+-- the image in that store: a list that no store passes, which ends clean
+abbrev pub wanted_over : Layout → Option Overlaid → List (Result Wanted StartFault)
+wanted_over l None = []
+wanted_over l (Some o) =
+    Ok (record {
+      name = o.part.name;
+      base = sectors_of l.device.first_logical_sector o.part.blocks;
+      store = Some (sectors_of l.device.first_logical_sector o.store.blocks);
+      chunk = One;
+      count = length o.store.blocks;
+      fewer = true;
+      clean = true;
+    })
+    ∷ []
+
+abbrev pub overlay_wanted : (overlaid : Bool)
+    → (slot : ℕ)
+    → Layout
+    → List (Result Wanted StartFault)
+overlay_wanted false slot l = []
+overlay_wanted true slot l = wanted_over l (overlaid_in slot l.parts)
+
+-- what is read of the store
+abbrev pub image_over : Option Scanned → PartImage
+image_over None = Kept
+image_over (Some s) = Written s.chunk s.exceptions
+
+-- the partition that is overlaid, with its store
+abbrev pub overlaid_on : Layout → List Scanned → Overlaid → Part
+overlaid_on l scanned o = record {
+  name = base_of o.part.name;
+  group = o.part.group;
+  map = sectors_of l.device.first_logical_sector o.part.blocks;
+  store = Some (sectors_of l.device.first_logical_sector o.store.blocks);
+  image = image_over (scanned_named o.part.name scanned);
+}
+
+abbrev pub overlay_of : (overlaid : Bool) → (slot : ℕ) → Layout → List Scanned → Option Part
+overlay_of false slot l scanned = None
+overlay_of true slot l scanned = option_map (overlaid_on l scanned) (overlaid_in slot l.parts)
+
+-- no update: one of the slot's partitions is overlaid, or none
+abbrev pub idle : UpdateMark → Phase
+idle m = record (single m) {
+  part_checks = λ most.
+      of_first m.slot
+      (λ t. own_check most m.slot t ∷ overlay_checks m.overlaid m.slot (layout_of t));
+  stores = λ ts statuses.
+      of_first_table [] (λ t. overlay_wanted m.overlaid m.slot (layout_of t)) ts;
+  overlay = λ ts scanned.
+      of_first_table None (λ t. overlay_of m.overlaid m.slot (layout_of t) scanned) ts;
 }
 
 -- ---- an update is installed
@@ -157,7 +231,7 @@ plan_of target l scanned = map (planned_on l scanned) (own_parts target l.parts)
 -- partitions of the other slot, its target, are planned. Where it stands apart, images are written
 -- in place.
 abbrev pub installing : UpdateMark → Phase
-installing m = record (idle m) {
+installing m = record (single m) {
   tables = m.slot ∷ other_slot m.slot ∷ [];
   reads_statuses = true;
   part_checks = λ most.
@@ -232,7 +306,7 @@ merging_checks slot c ts scanned =
 -- stores that are merged. A store may have fewer exceptions than its status says, and a partition
 -- without one may be written in place.
 abbrev pub merging : UpdateMark → Phase
-merging m = record (idle m) {
+merging m = record (single m) {
   through = λ slot. m.slot == slot;
   reads_statuses = true;
   part_checks = λ most. of_first m.slot (λ t. merging_check most m.slot t ∷ []);
@@ -251,7 +325,7 @@ phase_in marks.Idle m = idle m
 phase_in marks.Installing m = installing m
 phase_in marks.Staged m = staged m
 phase_in marks.Merging m = merging m
-phase_in marks.Completed m = idle m
+phase_in marks.Completed m = single m
 
 abbrev pub phase_at : UpdateMark → Phase
 phase_at m = phase_in m.phase m

@@ -14,7 +14,7 @@ use Rattle.vab_marks.specs.declared.sector.MarkFault.{MarkFault}
 use Rattle.vab_marks.specs.declared.status.PartStatus.{PartStatus}
 use Rattle.vab_marks.specs.declared.version.MarkVersion.{MarkVersion}
 use Rattle.vab_marks.specs.declared.version.MarkVersion.TheVariants.{Two}
-use Rattle.vab_marks.specs.Mark.{mark_of, rephased}
+use Rattle.vab_marks.specs.Mark.{mark_of}
 use Rattle.vab_marks.specs.Version.{version_in, partitions_under}
 use Rattle.vab_space.specs.declared.Chunk.{Chunk}
 use Rattle.vab_store.specs.Reached.{IsReached}
@@ -40,7 +40,7 @@ use Rattle.vab_device.specs.declared.device.Device.{Device}
 use Rattle.vab_device.specs.Checks.{unless, first_fault, passing, ◌>>=◌}
 use Rattle.vab_device.specs.Kept.{parts_of, limits_of, copies_end, super_bytes, lies_in, has_slot}
 use Rattle.vab_device.specs.Mounted.{Mounted, mounted_on, images_on, sectors_read, entries_on}
-use Rattle.vab_device.specs.Mounted.{written_sectors}
+use Rattle.vab_device.specs.Mounted.{written_sectors, overlay_on}
 use Rattle.vab_device.specs.Phases.{Phase, phase_at, plan_of, of_first_table}
 use Rattle.vab_device.specs.Stores.{Wanted, Scanned, scans_in}
 
@@ -62,7 +62,7 @@ settled marks.Completed = marks.Idle
 settled phase = phase
 
 abbrev pub mark_read : Result UpdateMark MarkFault → Result UpdateMark StartFault
-mark_read (Ok m) = Ok (rephased (settled m.phase) m)
+mark_read (Ok m) = Ok (record m { phase = settled m.phase })
 mark_read (Err fault) = Err (BadMark 2048)
 
 -- the update mark, in sector 2048
@@ -216,6 +216,7 @@ kept r = record {
   table_a = read_table 0 r;
   table_b = read_table 1 r;
   plan = (phase_at r.mark).plan r.tables r.scanned;
+  overlay = (phase_at r.mark).overlay r.tables r.scanned;
 }
 
 -- ---- what a disk means
@@ -297,6 +298,7 @@ pub record SameRead (size : ℕ) (r : Read) (old new : Image) : Type 0 where
   pub images_a : images_on new (kept r).a ≡ images_on old (kept r).a
   pub images_b : images_on new (kept r).b ≡ images_on old (kept r).b
   pub plan : entries_on new (kept r).plan ≡ entries_on old (kept r).plan
+  pub overlay : overlay_on new (kept r).overlay ≡ overlay_on old (kept r).overlay
 
 -- Writes of such values are dead: each image that has other bytes there alone is read the same.
 abbrev pub Dead : ℕ → Read → Image → (ℕ → List ℕ → Type 0) → Type 0
@@ -351,6 +353,11 @@ abbrev pub IsOfPlan : Option (List Part) → ℕ → Type 0
 IsOfPlan None s = ⊥
 IsOfPlan (Some plan) s = IsOfPlanned plan s
 
+-- a sector that a read of the overlaid partition takes
+abbrev pub IsOfOverlay : Option Part → ℕ → Type 0
+IsOfOverlay None s = ⊥
+IsOfOverlay (Some p) s = IsOfBlocks (sectors_read p) s
+
 -- The live sectors: the reading and the images are the same where these are.
 pub data Live (r : Read) (s : ℕ) : Type 0 where
   of_mark : s ≡ 2048 → Live r s
@@ -362,6 +369,7 @@ pub data Live (r : Read) (s : ℕ) : Type 0 where
   of_images_a : IsOfImages (kept r).a s → Live r s
   of_images_b : IsOfImages (kept r).b s → Live r s
   of_plan : IsOfPlan (kept r).plan s → Live r s
+  of_overlay : IsOfOverlay (kept r).overlay s → Live r s
 
 -- the same where the reading rests
 abbrev pub Agrees : Read → Image → Image → Type 0

@@ -1,5 +1,6 @@
 -- The images that statuses name, and what is read of their stores.
-use Rattle.std.specs.Prelude.{ℕ, ◌+◌, ◌==◌, nat_le, Bool, true, false, if◌then◌else◌, List, []}
+use Rattle.std.specs.Prelude.{ℕ, ◌+◌, ◌==◌, nat_le, Bool, true, false, ◌&&◌, if◌then◌else◌, List}
+use Rattle.std.specs.Prelude.{[]}
 use Rattle.std.specs.Prelude.{◌∷◌, length, slice_index_or, Option, Some, None, Result, Ok, Err}
 use Rattle.std.specs.Str.{bytes_eq}
 use Rattle.vab_disk.specs.Disk.{Image}
@@ -11,6 +12,7 @@ use Rattle.vab_exceptions.specs.declared.area.Exception.{Exception}
 use Rattle.vab_space.specs.declared.Chunk.{Chunk}
 use Rattle.vab_space.specs.declared.Chunk.TheVariants.{One}
 use Rattle.vab_store.specs.declared.fault.StoreFault.{StoreFault}
+use Rattle.vab_store.specs.Clean.{ends_clean}
 use Rattle.vab_store.specs.Scan.{scan_of}
 use Rattle.vab_store.specs.View.{stored_at}
 use Rattle.vab_layout.specs.declared.layout.Part.{Part as PartOfLayout}
@@ -24,6 +26,7 @@ use Rattle.vab_device.specs.Kept.{sectors_of}
 -- An image that a status names: the partition's whole name, its blocks and those of its store, each
 -- as its first sector, where it isn't in place; the size of a chunk and how many exceptions the
 -- status says, and whether there may be fewer: while a store is merged, exceptions leave its list.
+-- And whether behind the list's end its page is to have no exception.
 pub record Wanted : Type 0 where
   pub name : List ℕ
   pub base : List ℕ
@@ -31,6 +34,7 @@ pub record Wanted : Type 0 where
   pub chunk : Chunk
   pub count : ℕ
   pub fewer : Bool
+  pub clean : Bool
 
 -- the exceptions of the store of a partition, and the size of its chunks
 pub record Scanned : Type 0 where
@@ -62,6 +66,7 @@ image_wanted in_place first name InPlace (Some p) None =
       chunk = One;
       count = 0;
       fewer = false;
+      clean = false;
     }))
 image_wanted in_place first name (Stored count chunk) (Some p) None = Err (BadStore name)
 image_wanted in_place first name (Stored count chunk) (Some p) (Some store) = Ok (record {
@@ -71,6 +76,7 @@ image_wanted in_place first name (Stored count chunk) (Some p) (Some store) = Ok
   chunk = chunk;
   count = count;
   fewer = false;
+  clean = false;
 })
 
 abbrev pub wanted_by : (in_place : Bool)
@@ -107,10 +113,29 @@ scan_read w (Ok es) =
     (Ok (record { name = w.name; chunk = w.chunk; exceptions = es }))
 scan_read w (Err fault) = Err (BadStore w.name)
 
+-- it is asked of chunks of one block alone
+abbrev pub is_one : Chunk → Bool
+is_one One = true
+is_one _ = false
+
+-- the same, where behind its end the page has no exception, if that is asked
+abbrev pub clean_by : (clean : Bool)
+    → List ℕ
+    → List ℕ
+    → Image
+    → Result Scanned StartFault
+    → Result Scanned StartFault
+clean_by false name store image x = x
+clean_by true name store image (Err fault) = Err fault
+clean_by true name store image (Ok s) =
+    unless (ends_clean store (length s.exceptions) image) (BadStore name) (Ok s)
+
 -- an image in place has no exceptions
 abbrev pub scan_by : Wanted → Option (List ℕ) → Image → Result Scanned StartFault
 scan_by w None image = Ok (record { name = w.name; chunk = w.chunk; exceptions = [] })
-scan_by w (Some store) image = scan_read w (scan_of w.chunk store (length w.base) image)
+scan_by w (Some store) image =
+    clean_by (w.clean && is_one w.chunk) w.name store image
+    (scan_read w (scan_of w.chunk store (length w.base) image))
 
 unfoldable pub scan_at : Wanted → Image → Result Scanned StartFault
 scan_at w image = scan_by w w.store image

@@ -19,6 +19,7 @@ use Rattle.vab_builder.specs.declared.fault.EditFault.{EditFault}
 use Rattle.vab_builder.specs.declared.fault.EditFault.TheVariants as faults
 use Rattle.vab_builder.specs.Import.{imported_by}
 use Rattle.vab_builder.specs.Edits.{created, resized, deleted, stored, fitting, if_fitting}
+use Rattle.vab_builder.specs.Overlay.{with_overlay as table_over}
 use Rattle.vab_model.specs.declared.state.Image.{Image as ImageOfSlot}
 use Rattle.vab_model.specs.declared.state.PlanImage.{PlanImage}
 use Rattle.vab_model.specs.declared.state.PlanImage.TheVariants.{Kept, Declared, Written}
@@ -32,8 +33,9 @@ use Rattle.vab_model.specs.declared.command.Refusal.TheVariants as refusals
 use Rattle.vab_model.specs.declared.command.Reply.TheVariants as replies
 use Rattle.vab_model.specs.Commands.{Command, SetActive, Boot, Mark, Print, Digest, Begin, Create}
 use Rattle.vab_model.specs.Commands.{Resize, Delete, Snapshot, Flash, Finish, Cancel, BeginMerge}
-use Rattle.vab_model.specs.Commands.{Merge, Factory, UpdateSuper}
-use Rattle.vab_model.specs.Effects.{Effect, refuses, does, wanting, effect_map}
+use Rattle.vab_model.specs.Commands.{Merge, Factory, UpdateSuper, Overlay, OverlayWrite}
+use Rattle.vab_model.specs.Commands.{OverlayDiscard}
+use Rattle.vab_model.specs.Effects.{Effect, refuses, does, wanting, effect_map, if_plain}
 use Rattle.vab_model.specs.Plans.{entry_named, images_of, with_entries}
 use Rattle.vab_model.specs.Machine.{is_settled, least_declared, if_complete}
 use Rattle.vab_model.specs.Machine.{final_image as image_of}
@@ -41,6 +43,8 @@ use Rattle.vab_model.specs.Machine.{finished as finished_state, cancelled as can
 use Rattle.vab_model.specs.Machine.{merging_from as merging_state}
 use Rattle.vab_model.specs.Machine.{cancel_row, begin_merge_row, merge_row, turns as turns_of}
 use Rattle.vab_model.specs.Wipe.{Judge, wipe_effect, wiped as wiped_state}
+use Rattle.vab_model.specs.Over.{blank_overlay}
+use Rattle.vab_model.specs.Overlay.{overlay_effect, with_overlay}
 use Rattle.vab_device.specs.Kept.{group_of}
 use Rattle.vab_device.specs.Mounted.{Mounted, Places, in_state, effect_in}
 use Rattle.vab_device.specs.Stores.{first_named}
@@ -346,13 +350,50 @@ abbrev pub update_super : Mounted → (slot : ℕ) → Option (List ℕ) → Pha
 update_super m slot staged phase =
     wipe_effect (other_super m.places slot) (full_super m.places) (wiped m slot) slot staged phase
 
+-- ---- an overlay
+
+-- nothing is written yet to a store of so many blocks over an image, and the tables are read as
+-- before
+abbrev pub overlaid_over : Mounted → ImageOfSlot → (store : ℕ) → Mounted
+overlaid_over m image store =
+    in_state m (with_overlay m.state (Some (blank_overlay image store)))
+
+-- the slot's table with the store, or why there is none
+abbrev pub over_effect : Mounted
+    → ImageOfSlot
+    → (store : ℕ)
+    → Result Layout EditFault
+    → Effect Mounted
+over_effect m image store (Ok l) = wanting true (does replies.Done (overlaid_over m image store))
+over_effect m image store (Err fault) =
+    wanting (is_full_table fault) (refuses (refusal_of fault))
+
+abbrev pub over_table : Mounted
+    → List ℕ
+    → (slot : ℕ)
+    → Option Layout
+    → ImageOfSlot
+    → (store : ℕ)
+    → Effect Mounted
+over_table m name slot None image store = refuses refusals.NoImages
+over_table m name slot (Some l) image store =
+    over_effect m image store (fitting m.places.geometry.max (table_over slot l name store))
+
+-- of the current slot's partition of this whole name, with a store of so many bytes
+abbrev pub overlay_begun : Mounted → List ℕ → (size : ℕ) → Phase → Effect Mounted
+overlay_begun m name size phase =
+    overlay_effect m.state
+    (over_table m name m.state.control.current
+    (layout_at m.places m.state.control.current))
+    name size phase
+
 -- ---- the table of effects
 
 -- What a command makes of a device, where these bytes are staged: each command on an update has a
 -- row of its own, and the others that of the machine.
 abbrev pub effect_on : Mounted → Option (List ℕ) → Command → Effect Mounted
-effect_on m staged Begin = begin_effect m false m.state.phase
-effect_on m staged Factory = begin_effect m true m.state.phase
+effect_on m staged Begin = if_plain m.state.overlay (begin_effect m false m.state.phase)
+effect_on m staged Factory = if_plain m.state.overlay (begin_effect m true m.state.phase)
 effect_on m staged (Create name size) =
     edit_effect m no_guard (create_edit name size) m.state.phase
 effect_on m staged (Resize name size) =
@@ -372,4 +413,9 @@ effect_on m staged (Digest name) = effect_in m staged (Digest name)
 effect_on m staged Finish = finish_effect m m.state.phase
 effect_on m staged BeginMerge = begin_merge_effect m m.state.phase
 effect_on m staged (Merge blocks) = merge_effect m blocks m.state.phase
-effect_on m staged UpdateSuper = update_super m m.state.control.current staged m.state.phase
+effect_on m staged UpdateSuper =
+    if_plain m.state.overlay (update_super m m.state.control.current staged m.state.phase)
+effect_on m staged (Overlay name size) =
+    if_plain m.state.overlay (overlay_begun m name size m.state.phase)
+effect_on m staged (OverlayWrite block) = effect_in m staged (OverlayWrite block)
+effect_on m staged OverlayDiscard = effect_in m staged OverlayDiscard

@@ -60,6 +60,9 @@ pub struct Device {
     pub table_b: Option<Table>,
     /// The partitions of the target, while an update is installed.
     pub plan: Option<Listing<Part>>,
+    /// The partition that is overlaid, with its store, where one is: one of the mark's slot, and no
+    /// update is there.
+    pub overlay: Option<Part>,
 }
 
 /// Where an update stands.

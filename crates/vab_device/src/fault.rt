@@ -23,17 +23,21 @@ pub enum StartFault {
     BadTable(usize),
     /// The first partition, in the order of the table, that breaks a rule of a slot's own
     /// partitions, of an update's target or of a slot whose stores are merged; behind these, the
-    /// first that is in the stores' group, where the target stands apart.
+    /// first that is in the stores' group, where the target stands apart, or the store of an
+    /// overlay that has a block twice or one of the slot's partitions.
     BadPartition(Name36),
     /// A status has this name, and there is no such partition with a store, or the store holds no
     /// list of exceptions as long as the status says, in chunks of the status's size. While the
     /// store is merged the list may be shorter. A status of an image in place is one of a partition
-    /// without a store, where the target stands apart or the slot is merged.
+    /// without a store, where the target stands apart or the slot is merged. Or the store over this
+    /// partition holds no list of exceptions in chunks of one block, or has one behind the list's
+    /// end in the page of that.
     BadStore(Name36),
     /// 1: the current slot has no images, which can't be while an update is ready. 2: the mark's
     /// slot has priority 0 or isn't successful, or an update is ready and its target is current and
     /// has priority 0. 3: an update is ready or being merged, and a partition that it writes has no
-    /// status.
+    /// status. 4: a slot is overlaid, and not exactly one partition of the stores' group is the
+    /// store of one of the slot's.
     BadState(u8),
     /// Memory was refused.
     NoMemory,

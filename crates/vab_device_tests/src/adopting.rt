@@ -65,7 +65,7 @@ fn a_disk_without_a_super_is_not_adopted(rt: HostRuntime) -> Result<(), Fail> {
 // What is answered where this mark stood on the disk.
 fn adopted_over(alloc: Global, mark: UpdateMark) -> Result<Adopted, Fail> {
     let mut d = headless(alloc)?;
-    if mark.slot < 2 && !mark.apart && MARK < d.sectors() {
+    if mark.slot < 2 && !mark.apart && !mark.overlaid && MARK < d.sectors() {
         d.write_sector(MARK, &encode_mark(&mark))
             .ok()
             .ok_or("a sector is written")?;
@@ -90,6 +90,7 @@ fn an_update_that_is_dropped_is_answered(rt: HostRuntime) -> Result<(), Fail> {
             phase,
             slot,
             apart: false,
+            overlaid: false,
         };
         let dropped = if is_dropped { Some(mark) } else { None };
         let adopted = adopted_over(alloc, mark)?;

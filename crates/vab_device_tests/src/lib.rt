@@ -8,10 +8,11 @@ mod devices;
 #[cfg(test)]
 mod making;
 #[cfg(test)]
-#[cfg(test)]
 mod opening;
 #[cfg(test)]
 mod others;
+#[cfg(test)]
+mod overlaying;
 #[cfg(test)]
 mod snapshots;
 #[cfg(test)]

@@ -89,6 +89,17 @@ fn mark(phase: MarkPhase) -> [u8; 512] {
         phase,
         slot: 0,
         apart: false,
+        overlaid: false,
+    })
+}
+
+// The mark of no update where a partition of slot a is overlaid.
+fn overlaid_mark() -> [u8; 512] {
+    encode_mark(&UpdateMark {
+        phase: MarkPhase::Idle,
+        slot: 0,
+        apart: false,
+        overlaid: true,
     })
 }
 
@@ -571,6 +582,75 @@ fn a_slot_whose_stores_are_all_merged_has_no_update(rt: HostRuntime) -> Result<(
     let device = opened(alloc, &mut d)?;
     assert!(rt; device.phase() == PhaseKind::Idle && has_slot_a(&device));
     assert!(rt; left(&device).is_none() && is_kept(&device));
+    Ok(())
+}
+
+// The blocks of the store over slot a's partition, and where the blocks 7 and 30 stand in it.
+fn overlaid_by(device: &Device) -> Option<(u64, Option<u64>, Option<u64>)> {
+    let part = device.overlay.as_ref()?;
+    let blocks = part.store.as_ref()?.len();
+    match &part.image {
+        PartImage::Written(_, view) => Some((blocks, view.chunk_of(7), view.chunk_of(30))),
+        _ => None,
+    }
+}
+
+#[test]
+fn an_overlaid_partition_is_one_of_its_slot_with_its_store(rt: HostRuntime) -> Result<(), Fail> {
+    let alloc = rt.alloc();
+    let mut d = with_store(alloc, MarkPhase::Idle, areas()[1])?;
+    put_each(&mut d, &[(MARK, overlaid_mark())])?;
+    let device = opened(alloc, &mut d)?;
+    assert!(rt; device.phase() == PhaseKind::Idle && has_slot_a(&device));
+    assert!(rt; left(&device).is_none() && is_kept(&device));
+    assert!(rt; overlaid_by(&device) == Some((5, Some(2), None)));
+    Ok(())
+}
+
+// The blocks of the device where a partition of slot a is overlaid, whose store has this area, or
+// where none has a store; or the fault.
+fn cap_over(
+    alloc: Global,
+    area: Option<[u8; 512]>,
+    fields: Fields,
+) -> Result<Result<u64, StartFault>, Fail> {
+    let mut d = match area {
+        Some(area) => with_store(alloc, MarkPhase::Idle, area)?,
+        None => device(alloc)?,
+    };
+    put_each(
+        &mut d,
+        &[(MARK, overlaid_mark()), (CONTROL, control_with(fields)?)],
+    )?;
+    Ok(cap_of(alloc, &mut d))
+}
+
+#[test]
+fn an_overlay_keeps_its_rules(rt: HostRuntime) -> Result<(), Fail> {
+    let good = (0, 15, true, 0);
+    let bad_store = StartFault::BadStore(full_name()?);
+    // An entry behind the end of the list.
+    let stale = with_exception([0; 512], 16, 30, 3);
+    for (area, fields, answer) in [
+        (Some(areas()[0]), good, Ok(256)),
+        (Some(areas()[3]), good, Ok(256)),
+        (Some(stale), good, Err(bad_store)),
+        (None, good, Err(StartFault::BadState(4))),
+        (None, (1, 15, true, 0), Err(StartFault::BadState(4))),
+        (Some(stale), (1, 15, true, 0), Err(bad_store)),
+        (
+            Some(areas()[1]),
+            (1, 15, true, 0),
+            Err(StartFault::BadState(1)),
+        ),
+        (
+            Some(areas()[1]),
+            (0, 15, false, 0),
+            Err(StartFault::BadState(2)),
+        ),
+    ] {
+        assert!(rt; cap_over(rt.alloc(), area, fields)? == answer, "{fields:?}");
+    }
     Ok(())
 }
 

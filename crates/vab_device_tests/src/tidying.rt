@@ -30,6 +30,7 @@ fn idle(slot: usize) -> Option<UpdateMark> {
         phase: MarkPhase::Idle,
         slot,
         apart: false,
+        overlaid: false,
     })
 }
 
@@ -105,6 +106,7 @@ fn a_merge_that_has_ended_is_tidied_once(rt: HostRuntime) -> Result<(), Fail> {
         phase: MarkPhase::Completed,
         slot: 1,
         apart: false,
+        overlaid: false,
     };
     assert!(rt; mark_of(&mut d) == Some(completed));
     // The table is stored, each copy with its syncs, and the mark by one gate.
@@ -187,6 +189,7 @@ fn a_table_that_would_not_fit_is_left(rt: HostRuntime) -> Result<(), Fail> {
         phase: MarkPhase::Completed,
         slot: 0,
         apart: false,
+        overlaid: false,
     });
     let sectors = [
         (4, control(0, 15, true)),

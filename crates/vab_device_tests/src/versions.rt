@@ -62,6 +62,7 @@ fn version(d: &mut MemPort) -> Option<MarkVersion> {
         phase: MarkPhase::Merging,
         slot: 0,
         apart: false,
+        overlaid: false,
     };
     let bytes = sector(d, MARK)?;
     if decode_mark(&bytes) == Ok(merging) {

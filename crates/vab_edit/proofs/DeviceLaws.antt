@@ -118,7 +118,7 @@ module _
         control = kept.control;
         phase = kept.phase;
         slot = kept.slot;
-        apart = kept.apart;
+        flags = kept.flags;
         current = kept.current;
         has_a = kept.has_a;
         has_b = kept.has_b;
@@ -143,6 +143,8 @@ module _
             (subst (λ (x : Option Table). IsUpdate d.mark.apart d.mark.slot (Some s) x)
             (sym (ap (λ (n : ℕ). if other_slot n == 0 then d.table_a else Some u) e))
             are);
+        overlaid = kept.overlaid;
+        overlay = kept.overlay;
       }
 
   beside_b : (plan : List Part)
@@ -157,7 +159,7 @@ module _
         control = kept.control;
         phase = kept.phase;
         slot = kept.slot;
-        apart = kept.apart;
+        flags = kept.flags;
         current = kept.current;
         has_a = kept.has_a;
         has_b = kept.has_b;
@@ -182,6 +184,8 @@ module _
             (subst (λ (x : Option Table). IsUpdate d.mark.apart d.mark.slot (Some s) x)
             (sym (ap (λ (n : ℕ). if other_slot n == 0 then Some u else d.table_b) e))
             are);
+        overlaid = kept.overlaid;
+        overlay = kept.overlay;
       }
 
   pub next_kept : (plan : List Part)

@@ -25,6 +25,8 @@ use Rattle.vab_marks.specs.declared.mark.UpdateMark.{UpdateMark}
 use Rattle.vab_marks.specs.Mark.{rephased, resloted}
 use Rattle.vab_marks.specs.declared.version.MarkVersion.TheVariants.{Two}
 use Rattle.vab_device.specs.Reading.{version_at}
+use Rattle.vab_device.proofs.MarkLaws.{as_phase}
+use Rattle.vab_device.proofs.ReadingLaws.{flags_known}
 
 -- what is read: the source's slot, its table and the target's
 abbrev pub read_at : UpdateMark
@@ -108,8 +110,10 @@ stands_installing d size image is installing =
     let r : Read = is.read in
     let phase : r.mark.phase ≡ marks.Installing =
     sym (ap (λ (k : Device). k.mark.phase) is.is) ∙ installing in
+    let marked_as : r.mark ≡ rephased marks.Installing r.mark =
+    as_phase r.mark marks.Installing (flags_known image r.mark is.reads.mark) refl phase in
     let marked : r ≡ record r { mark = rephased marks.Installing r.mark } =
-    (λ i. record r { mark = record r.mark { phase = phase i } }) in
+    (λ i. record r { mark = marked_as i }) in
     let now = subst (StandsFor d size image) marked
     (record { reads = is.reads; is = is.is; copies = is.copies }) in
     let two = two_tables size r.geometry r.mark.slot (other_slot r.mark.slot) image r.tables

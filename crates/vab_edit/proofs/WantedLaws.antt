@@ -2,7 +2,7 @@
 use Rattle.std.proofs.Common.{◌≡◌, ◌∙◌, inl, inr, ℕ, List, [], ◌∷◌, Result, Ok, Err}
 use Rattle.std.proofs.Common.{true, false}
 use Rattle.std.proofs.Common.{refl, sym, ap, subst, length}
-use Rattle.std.specs.Prelude.{Bool, Option, Some, None, map, is_some}
+use Rattle.std.specs.Prelude.{◌&&◌, Bool, Option, Some, None, map, is_some}
 use Rattle.std.specs.Str.{bytes_eq}
 use Rattle.std.proofs.lemmas.Bool.{cases_Bool}
 use Rattle.vab_disk.specs.Disk.{Image}
@@ -29,6 +29,8 @@ use Rattle.vab_device.specs.Stores.{scan_by, scan_at, scans_in, scanned_named}
 use Rattle.vab_device.proofs.CheckLaws.{bound}
 use Rattle.vab_edit.proofs.NamedLaws.{HasImage, AreAsBefore, LeavesImages, blocks_of_some}
 use Rattle.vab_edit.proofs.NamedLaws.{has_still}
+use Rattle.vab_device.proofs.StoreLaws.{clean_taken}
+use Rattle.vab_device.specs.Stores.{is_one}
 
 -- what is scanned has the name that is wanted
 read_name : (w : Wanted) (x : Result (List Exception) StoreFault) (s : Scanned)
@@ -59,7 +61,10 @@ scan_name w image s is = by_store w.store is
         let taken : (let r : Result Scanned StartFault = Ok read in r ≡ Ok s) = is in
         let same : read ≡ s = cc in
         sym (ap (λ (x : Scanned). x.name) same)
-    by_store (Some store) is = read_name w (scan_of w.chunk store (length w.base) image) s is
+    by_store (Some store) is =
+        let read = scan_read w (scan_of w.chunk store (length w.base) image) in
+        read_name w (scan_of w.chunk store (length w.base) image) s
+        (clean_taken (w.clean && is_one w.chunk) w.name store image read s is)
 
 -- the first image that is scanned, and the others
 record ScansFirst (may : Bool) (name : List ℕ) (a b : Option Part)
@@ -123,6 +128,7 @@ scans_first true first name InPlace (Some p) None ws image ss h =
       chunk = One;
       count = 0;
       fewer = false;
+      clean = false;
     })
     ws image ss refl (λ none. refl) h
 scans_first may first name (Stored count k) None b ws image ss h =
@@ -138,6 +144,7 @@ scans_first may first name (Stored count k) (Some p) (Some q) ws image ss h =
       chunk = k;
       count = count;
       fewer = false;
+      clean = false;
     })
     ws image ss refl
     (λ none. absurd (let bad : (let x : Option Part = Some q in x ≡ None) = none in cc)) h
@@ -202,6 +209,7 @@ image_still may n o name InPlace p r None None first part store =
       chunk = One;
       count = 0;
       fewer = false;
+      clean = false;
     })))
 image_still may n o name InPlace p r (Some q) (Some s) first part store = refl
 image_still may n o name (Stored count k) p r None None first part store = refl
@@ -215,6 +223,7 @@ image_still may n o name (Stored count k) p r (Some q) (Some s) first part store
       chunk = k;
       count = count;
       fewer = false;
+      clean = false;
     }))
 
 want_still : (may : Bool) (slot : ℕ) (old new : Layout) (st : PartStatus)

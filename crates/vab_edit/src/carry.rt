@@ -82,44 +82,19 @@ pub fn with_table(device: Device, target: usize, table: Table, plan: Listing<Par
     requires { AllPairs (λ a b. a.name ≢ b.name) plan }
     ensures { result ≡ with_target device target table (carried_over device.plan plan) }
 {
-    let Device {
-        geometry,
-        control,
-        mark,
-        cap,
-        groups,
-        a,
-        b,
-        table_a,
-        table_b,
-        plan: old,
-    } = device;
-    let plan = Some(carry(old, plan));
+    let mut device = device;
+    let plan = Some(carry(device.plan.take(), plan));
     if target == 0 {
         Device {
-            geometry,
-            control,
-            mark,
-            cap,
-            groups,
-            a,
-            b,
             table_a: Some(table),
-            table_b,
             plan,
+            ..device
         }
     } else {
         Device {
-            geometry,
-            control,
-            mark,
-            cap,
-            groups,
-            a,
-            b,
-            table_a,
             table_b: Some(table),
             plan,
+            ..device
         }
     }
 }

@@ -8,8 +8,8 @@ use Rattle.vab_space.specs.declared.Chunk.{Chunk}
 use Rattle.vab_space.specs.declared.Chunk.TheVariants.{One, Two, Four}
 use Rattle.vab_model.specs.Commands.{Command, SetActive, Boot, Mark, Digest, Begin, Create, Resize}
 use Rattle.vab_model.specs.Commands.{Delete, Snapshot, Flash, Finish, Cancel, BeginMerge}
-use Rattle.vab_model.specs.Commands.{Merge, Factory, UpdateSuper}
-use Rattle.vab_model.specs.Commands.{command_of}
+use Rattle.vab_model.specs.Commands.{Merge, Factory, UpdateSuper, Overlay, OverlayWrite}
+use Rattle.vab_model.specs.Commands.{OverlayDiscard, command_of}
 use Rattle.vab_fbproto.specs.declared.request.Var.{Var}
 use Rattle.vab_fbproto.specs.declared.request.Var.TheVariants as vars
 use Rattle.vab_fbproto.specs.declared.request.BadCommand.{BadCommand}
@@ -185,6 +185,11 @@ unfoldable pub count_argument : Option (List ℕ) → Result ℕ BadCommand
 count_argument None = Err BadArgument
 count_argument (Some digits) = a_count (decimal_number digits)
 
+-- NUMBER
+unfoldable pub number_argument : Option (List ℕ) → Result ℕ BadCommand
+number_argument None = Err BadArgument
+number_argument (Some number) = some_number (number_of number)
+
 abbrev pub with_size : List ℕ → Option ℕ → Result (List ℕ × ℕ) BadCommand
 with_size name (Some size) = Ok (name, size)
 with_size name None = Err BadArgument
@@ -291,6 +296,16 @@ super_action None = Err BadArgument
 super_action (Some action) =
     if bytes_eq action (codes "super:wipe") then Ok (Do UpdateSuper) else Err BadArgument
 
+-- the words of an overlay, behind `oem`
+unfoldable pub asked_overlay : List ℕ → Option (List ℕ) → Result Asked BadCommand
+asked_overlay word rest =
+    if bytes_eq word (codes "oem overlay")
+    then asks (λ p. Do (Overlay p.0 p.1)) (blank_argument rest)
+    else if bytes_eq word (codes "oem overlay-write")
+    then asks (λ block. Do (OverlayWrite block)) (number_argument rest)
+    else if bytes_eq word (codes "oem overlay-discard") then plain rest (Do OverlayDiscard)
+    else Err Unknown
+
 -- the words behind `oem`
 unfoldable pub asked_oem : List ℕ → Option (List ℕ) → Result Asked BadCommand
 asked_oem word rest =
@@ -308,7 +323,7 @@ asked_oem word rest =
     then asks (λ p. Do (Flash p.0 p.1)) (chunk_argument rest)
     else if bytes_eq word (codes "oem digest")
     then asks (λ name. Do (Digest name)) (name_argument rest)
-    else Err Unknown
+    else asked_overlay word rest
 
 -- the words of an update
 unfoldable pub asked_update : List ℕ → Option (List ℕ) → Result Asked BadCommand

@@ -3,6 +3,7 @@ ghost use Rattle.std.specs.Prelude.{◌≡◌, ◌≤◌, ◌<◌, ◌^◌, Matc
 ghost use Rattle.std.specs.List.{list_any};
 ghost use Rattle.vab_fbproto.specs.Requests.{is_delimiter, is_name, no_argument, name_argument};
 ghost use Rattle.vab_fbproto.specs.Requests.{slot_argument, length_argument, count_argument};
+ghost use Rattle.vab_fbproto.specs.Requests.{number_argument};
 ghost use Rattle.vab_fbproto.specs.Requests.{sized_name, colon_argument, blank_argument};
 ghost use Rattle.vab_fbproto.specs.Requests.{chunk_of, chunked_name, chunk_argument};
 
@@ -104,6 +105,23 @@ pub(crate) fn count_argument(rest: Option<&[u8]>) -> Result<u64, BadCommand>
         Some(digits) => match decimal_number(digits) {
             Some(count) if count > 0 && count < 1 << 32 => Ok(count),
             _ => Err(BadCommand::BadArgument),
+        },
+        None => Err(BadCommand::BadArgument),
+    }
+}
+
+/// A number.
+#[tactic(auto, unfolding(crate::specs::Requests::number_argument))]
+pub(crate) fn number_argument(rest: Option<&[u8]>) -> Result<u64, BadCommand>
+    ensures { let text = option_map (λ r. r.now) rest.entry in
+        MatchResult result
+        (λ n. number_argument text ≡ Ok n)
+        (λ e. number_argument text ≡ Err e) }
+{
+    match rest {
+        Some(number) => match number_of(number) {
+            Some(n) => Ok(n),
+            None => Err(BadCommand::BadArgument),
         },
         None => Err(BadCommand::BadArgument),
     }

@@ -1,12 +1,12 @@
 //! What a packet asks for.
 ghost use Rattle.std.specs.Prelude.{◌≡◌, ◌≤◌, ◌<◌, length, MatchResult, Ok, Err, option_map};
 ghost use Rattle.vab_fbproto.specs.Requests.{asked_of, plain, argued_variable, asked_variable};
-ghost use Rattle.vab_fbproto.specs.Requests.{update_action, super_action, asked_oem};
-ghost use Rattle.vab_fbproto.specs.Requests.{asked_update, request_of};
+ghost use Rattle.vab_fbproto.specs.Requests.{update_action, super_action, asked_overlay};
+ghost use Rattle.vab_fbproto.specs.Requests.{asked_oem, asked_update, request_of};
 
 use crate::argument::{
     blank_argument, chunk_argument, colon_argument, count_argument, length_argument, name_argument,
-    no_argument, slot_argument,
+    no_argument, number_argument, slot_argument,
 };
 use crate::word::{split_at_colon, split_packet};
 use vab_model::Command;
@@ -161,6 +161,26 @@ fn read_super_action<'a>(rest: Option<&[u8]>) -> Result<Request<'a>, BadCommand>
     }
 }
 
+// The words of an overlay, behind `oem`.
+#[tactic(auto, unfolding(crate::specs::Requests::asked_overlay))]
+fn read_overlay<'a>(word: &[u8], rest: Option<&'a [u8]>) -> Result<Request<'a>, BadCommand>
+    ensures { let text = option_map (λ r. r.now) rest.entry in
+        MatchResult result
+        (λ r. asked_overlay word.now text ≡ Ok (asked_of r))
+        (λ e. asked_overlay word.now text ≡ Err e) }
+{
+    if word == b"oem overlay".as_slice() {
+        let (name, store) = blank_argument(rest)?;
+        Ok(Request::Do(Command::Overlay(name, store)))
+    } else if word == b"oem overlay-write".as_slice() {
+        Ok(Request::Do(Command::OverlayWrite(number_argument(rest)?)))
+    } else if word == b"oem overlay-discard".as_slice() {
+        plain(rest, Request::Do(Command::OverlayDiscard))
+    } else {
+        Err(BadCommand::Unknown)
+    }
+}
+
 // The words behind `oem`.
 #[tactic(auto, unfolding(crate::specs::Requests::asked_oem))]
 fn read_oem<'a>(word: &[u8], rest: Option<&'a [u8]>) -> Result<Request<'a>, BadCommand>
@@ -192,7 +212,7 @@ fn read_oem<'a>(word: &[u8], rest: Option<&'a [u8]>) -> Result<Request<'a>, BadC
     } else if word == b"oem digest".as_slice() {
         Ok(Request::Do(Command::Digest(name_argument(rest)?)))
     } else {
-        Err(BadCommand::Unknown)
+        read_overlay(word, rest)
     }
 }
 

@@ -29,8 +29,8 @@ use Rattle.vab_names.specs.Names.{is_full, base_of}
 use Rattle.vab_layout.specs.Slots.{other_slot}
 use Rattle.vab_fbvars.specs.Planned.{planned_named, kept_planned, bytes_planned}
 use Rattle.vab_model.specs.State.{image_named, info_seen}
-use Rattle.vab_manager.specs.Found.{part_named}
-use Rattle.vab_manager.specs.Blocks.{image_at}
+use Rattle.vab_manager.specs.Found.{part_named, as_read}
+use Rattle.vab_manager.specs.Blocks.{part_read, image_at}
 use Rattle.vab_manager.proofs.BlockLaws.{image_of_part}
 use Rattle.vab_fbvars.specs.Variables.{slot_info, AreSectors, planned_in, entry_size, size_planned}
 use Rattle.vab_fbvars.specs.Variables.{status_text, status_of}
@@ -83,11 +83,16 @@ copied_some (Some x) = refl
 -- the same by the reference to it
 pub base_kept : (d : Device) (image : Image) (slot : ℕ) (base : List ℕ) (o : Option (Bor Part))
     (b : Bool)
-    → option_copied o ≡ option_and_then (part_named base) (parts_at d slot)
+    → option_copied o ≡ part_read d slot base
     → b ≡ is_some o
     → is_some (image_at (state_on d image) slot base) ≡ b
 base_kept d image slot base o b same is =
-    base_on d image slot base ∙ ap is_some (sym same) ∙ copied_some o ∙ sym is
+    base_on d image slot base
+    ∙ sym
+    (is_mapped (as_read d.overlay) (option_and_then (part_named base) (parts_at d slot)))
+    ∙ ap is_some (sym same)
+    ∙ copied_some o
+    ∙ sym is
 
 pub either : (x y a b : Bool) → x ≡ a → y ≡ b → (x || y) ≡ (a || b)
 either x y a b p q = rw (p, q) refl

@@ -32,7 +32,7 @@ use Rattle.vab_device.specs.Stores.{Scanned}
 use Rattle.vab_device.specs.Updates.{finished, final_image}
 use Rattle.vab_device.proofs.Behind.{images_behind, stores_behind, plan_behind}
 use Rattle.vab_device.proofs.CheckLaws.{first_kept, check_kept}
-use Rattle.vab_device.proofs.MarkLaws.{rephased_apart}
+use Rattle.vab_device.proofs.MarkLaws.{rephased_fits}
 use Rattle.vab_device.proofs.OpeningLaws.{control_seen_in}
 use Rattle.vab_device.proofs.ReadingLaws.{control_is_seen}
 use Rattle.vab_device.proofs.SameLaws.{mark_same, control_same, geometry_same, tables_agree}
@@ -155,6 +155,7 @@ module _
         plan_kept (kept before).plan old mid
         (λ s is.
         stays s (λ e. omega (arith, e, plan_behind size 4096 before old s reads (omega arith) is)));
+    overlay = refl;
   }
 
   -- ---- with the mark
@@ -218,7 +219,7 @@ module _
     reads_new = record {
       enough = reads.enough;
       mark = mark_there (rephased marks.Staged (resloted slot base)) new refl
-          (rephased_apart marks.Staged (resloted slot base)) read
+          (rephased_fits marks.Staged (resloted slot base)) read
           (set_here mid 2048 (mark_spelling (rephased marks.Staged (resloted slot base))) 2048
           refl);
       statuses =

@@ -1,5 +1,5 @@
 -- What is kept of a device as its installation ends.
-use Rattle.std.proofs.Common.{◌≡◌, ◌∙◌, inl, inr, ℕ, zero, suc, ◌<◌, true, refl, ap}
+use Rattle.std.proofs.Common.{◌≡◌, ◌∙◌, inl, inr, ℕ, zero, suc, ◌<◌, true, refl, ap, subst, sym}
 use Rattle.std.proofs.Common.{arith}
 use Rattle.std.specs.Prelude.{◌==◌, if◌then◌else◌, List, Option, is_some}
 use Rattle.std.proofs.lemmas.Bool.{cases_Bool}
@@ -8,10 +8,14 @@ use Rattle.vab_layout.specs.Slots.{other_slot}
 use Rattle.vab_device.specs.declared.device.Part.{Part}
 use Rattle.vab_device.specs.declared.device.Device.{Device}
 use Rattle.vab_device.specs.Kept.{ArePresent, IsDevice, is_installing, reads_both}
-use Rattle.vab_device.proofs.MarkLaws.{rephased_apart}
+use Rattle.vab_device.proofs.MarkLaws.{rephased_fits}
 use Rattle.vab_begin.proofs.KeptLaws.{source_a, source_b}
 use Rattle.vab_finish.specs.Finished.{finished_device}
 use Rattle.vab_begin.proofs.BegunLaws.{cleared_fits}
+use Rattle.vab_device.proofs.MarkLaws.{not_overlaid}
+use Rattle.vab_device.proofs.OverlayLaws.{update_none}
+use Rattle.vab_marks.specs.Mark.{is_idle}
+use Rattle.vab_device.specs.Kept.{IsOverlay, parts_at}
 
 either_present : (n size : ℕ) (x y : Option (List Part))
     → ArePresent size x
@@ -52,7 +56,7 @@ finished_kept d size is installing =
       control = cleared_fits d.control (other_slot d.mark.slot) is.control;
       phase = inr (inr (inl refl));
       slot = is.slot;
-      apart = rephased_apart marks.Staged d.mark;
+      flags = rephased_fits marks.Staged d.mark;
       current = refl;
       has_a = has_a_now d.mark.slot d.a d.plan (source_a d size is) is.slot there;
       has_b = has_b_now d.mark.slot d.b d.plan (source_b d size is) is.slot there;
@@ -66,6 +70,11 @@ finished_kept d size is installing =
       planned = refl;
       plan = tt;
       update = is.update;
+      overlaid = is.overlaid ∙ not_overlaid d.mark is.flags (ap is_idle installing);
+      overlay = subst
+          (IsOverlay size (parts_at (finished_device d) d.mark.slot))
+          (sym (update_none d size is (ap is_idle installing)))
+          tt;
     }
 
 -- its source stays

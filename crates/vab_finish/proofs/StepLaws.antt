@@ -43,6 +43,8 @@ use Rattle.vab_finish.proofs.ReadyLaws.{plan_on, ready_of, finish_by}
 use Rattle.vab_marks.specs.declared.version.MarkVersion.TheVariants.{Two}
 use Rattle.vab_device.specs.Reading.{version_at}
 use Rattle.vab_finish.proofs.FinishedLaws.{version_new}
+use Rattle.vab_device.proofs.MarkLaws.{as_phase}
+use Rattle.vab_device.proofs.ReadingLaws.{flags_known}
 
 installing_only : (p : MarkPhase) → is_installing p ≡ true → p ≡ marks.Installing
 installing_only marks.Idle is = absurd cc
@@ -292,9 +294,13 @@ module _ (told : Type 0) (size : ℕ) (old : Image) where
           update_read (rephased marks.Installing r.mark) r.statuses r.control r.geometry two.0 two.1
           r.scanned
 
+      marked_as : r.mark ≡ rephased marks.Installing r.mark
+      marked_as =
+          as_phase r.mark marks.Installing (flags_known old r.mark is.reads.mark) refl phase
+
       shape : r ≡ shaped
       shape = (λ i. record {
-        mark = record r.mark { phase = phase i };
+        mark = marked_as i;
         statuses = r.statuses;
         control = r.control;
         geometry = r.geometry;

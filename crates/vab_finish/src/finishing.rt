@@ -52,6 +52,7 @@ fn end_installation<D: Disk>(d: &mut D, device: Device) -> Result<(Device, Reply
         Ok(()) => {
             let mark = UpdateMark {
                 phase: MarkPhase::Staged,
+                overlaid: false,
                 ..device.mark
             };
             match put_mark(d, &mark) {

@@ -5,42 +5,31 @@ ghost use Rattle.vab_finish.specs.Finished.{finished_device};
 
 use vab_device::Device;
 use vab_install::cleared;
-use vab_marks::{MarkPhase, UpdateMark};
+use vab_marks::MarkPhase;
 
 /// The device whose plan has become the images of the target.
 pub fn finished(device: Device) -> Device
     requires { device.mark.slot < 2 }
     ensures { result ≡ finished_device device }
 {
+    let mut device = device;
     let slot = device.mark.slot;
     let control = cleared(&device.control, 1 - slot);
-    let mark = UpdateMark {
-        phase: MarkPhase::Staged,
-        ..device.mark
-    };
-    let Device {
-        geometry,
-        control: _,
-        mark: _,
-        cap,
-        groups,
-        a,
-        b,
-        table_a,
-        table_b,
-        plan,
-    } = device;
-    let (a, b) = if slot == 0 { (a, plan) } else { (plan, b) };
-    Device {
-        geometry,
-        control,
-        mark,
-        cap,
-        groups,
-        a,
-        b,
-        table_a,
-        table_b,
-        plan: None,
+    let mark = device.mark.with_phase(MarkPhase::Staged);
+    let plan = device.plan.take();
+    if slot == 0 {
+        Device {
+            control,
+            mark,
+            b: plan,
+            ..device
+        }
+    } else {
+        Device {
+            control,
+            mark,
+            a: plan,
+            ..device
+        }
     }
 }

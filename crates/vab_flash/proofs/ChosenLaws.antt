@@ -244,7 +244,15 @@ no_control = record {
 }
 
 no_state : State
-no_state = record { cap = 0; groups = []; control = no_control; a = None; b = None; phase = Idle }
+no_state = record {
+  cap = 0;
+  groups = [];
+  control = no_control;
+  a = None;
+  b = None;
+  phase = Idle;
+  overlay = None;
+}
 
 among_bytes : (image : Image) (base : List ℕ) (o : Option (List Part))
     → AreAllDirect o

@@ -312,4 +312,5 @@ module _
         images_a = images_a_stay new stay;
         images_b = images_b_stay new stay;
         plan = plan_stays new stay;
+        overlay = refl;
       }

@@ -34,7 +34,7 @@ use Rattle.vab_device.specs.Checks.{◌>>=◌}
 use Rattle.vab_device.specs.Kept.{sectors_of, IsDevice}
 use Rattle.vab_device.specs.Phases.{planned_on, planned_image, plan_of}
 use Rattle.vab_device.specs.Mounted.{bytes_at, written_sectors, entry_on, entries_on, images_on}
-use Rattle.vab_device.specs.Mounted.{state_on, mounted_on}
+use Rattle.vab_device.specs.Mounted.{state_on, mounted_on, overlay_on}
 use Rattle.vab_device.specs.Flashed.{filled, with_image}
 use Rattle.vab_device.specs.Reading.{Read, read_table, kept, IsOfWritten, IsOfPlanned}
 use Rattle.vab_device.proofs.StoreLaws.{plan_kept}
@@ -374,6 +374,9 @@ module _
         let b : images_on new d.b ≡ images_on old d.b =
         subst (λ (k : Device). images_on new k.b ≡ images_on old k.b) (sym i.is)
         (images_b_stay d size old i device name blocks belong unread new same) in
+        let o : overlay_on new d.overlay ≡ overlay_on old d.overlay =
+        subst (λ (k : Device). overlay_on new k.overlay ≡ overlay_on old k.overlay) (sym i.is)
+        refl in
         (λ k. record (mounted_on d old) {
           state = record (state_on d old) {
             a = a k;
@@ -381,5 +384,6 @@ module _
             phase =
                 Installing d.mark.slot
                 (record { apart = d.mark.apart; entries = entries_then k });
+            overlay = o k;
           };
         })

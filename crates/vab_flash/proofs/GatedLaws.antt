@@ -167,7 +167,7 @@ written_kept d size name staged place to bytes chunk es is chosen stored_is =
       control = is.control;
       phase = is.phase;
       slot = is.slot;
-      apart = is.apart;
+      flags = is.flags;
       current = is.current;
       has_a = is.has_a;
       has_b = is.has_b;
@@ -190,6 +190,8 @@ written_kept d size name staged place to bytes chunk es is chosen stored_is =
         );
       };
       update = is.update;
+      overlaid = is.overlaid;
+      overlay = is.overlay;
     }
 
 -- in its store the exceptions keep the rules of a list

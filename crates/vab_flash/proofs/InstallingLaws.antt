@@ -22,6 +22,9 @@ use Rattle.vab_device.specs.declared.fault.StartFault.{StartFault}
 use Rattle.vab_device.specs.declared.fault.StartFault.TheVariants.{BadMark}
 use Rattle.vab_device.specs.Reading.{version_at, statuses_read, statuses_at}
 use Rattle.vab_statuses.specs.Statuses.{statuses_in, statuses_under}
+use Rattle.vab_device.proofs.MarkLaws.{not_overlaid}
+use Rattle.vab_device.proofs.ReadingLaws.{flags_known}
+use Rattle.vab_marks.specs.Mark.{FlagsFit, is_idle}
 
 -- what is read of a disk with an update from this slot, with the tables of source and target
 abbrev pub installing_read : UpdateMark
@@ -107,6 +110,17 @@ planning marks.Staged m ts ss plan h = absurd cc
 planning marks.Merging m ts ss plan h = absurd cc
 planning marks.Completed m ts ss plan h = absurd cc
 
+-- a mark whose target is written is not overlaid
+as_installing : (m : UpdateMark)
+    → FlagsFit m
+    → m.phase ≡ marks.Installing
+    → m ≡ record m { phase = marks.Installing; overlaid = false }
+as_installing m fits is =
+    (λ i. record m {
+      phase = is i;
+      overlaid = not_overlaid m fits (ap is_idle is) i;
+    })
+
 -- a device with a plan
 pub installs_of : (d : Device) (size : ℕ) (image : Image) (plan : List Part)
     → Represents d size image
@@ -120,9 +134,10 @@ installs_of d size image plan is planned =
     let form : Read =
     installing_read r.mark r.mark.slot r.statuses r.control r.geometry p.source p.target p.others
     r.scanned in
+    let marked = as_installing r.mark (flags_known image r.mark is.reads.mark) p.installing in
     let e : r ≡ form =
     (λ i. record {
-      mark = record r.mark { phase = p.installing i };
+      mark = marked i;
       statuses = r.statuses;
       control = r.control;
       geometry = r.geometry;

@@ -2,7 +2,7 @@
 use Rattle.std.proofs.Common.{◌≡◌, ◌∙◌, inl, inr, ℕ, zero, suc, ◌-◌, ◌<◌, List, [], ◌∷◌, ◌++◌}
 use Rattle.std.proofs.Common.{length, get_or, set, cond, Result, Ok, Err, refl, sym, ap, subst}
 use Rattle.std.proofs.Common.{arith}
-use Rattle.std.specs.Prelude.{Bool, true, false, Option, Some, None, map, All}
+use Rattle.std.specs.Prelude.{◌&&◌, Bool, true, false, Option, Some, None, map, All}
 use Rattle.std.specs.Str.{bytes_eq}
 use Rattle.std.proofs.lemmas.Bool.{cases_Bool}
 use Rattle.std.proofs.lemmas.List.Elements.{All-cons}
@@ -29,6 +29,8 @@ use Rattle.vab_device.proofs.NamedParts.{named_in}
 use Rattle.vab_flash.proofs.FewLaws.{IsNamed, named_in_list}
 use Rattle.vab_statuses.proofs.StatusesLaws.{IsFreeAt}
 use Rattle.vab_statuses.proofs.StatusesLaws.{free_is}
+use Rattle.vab_device.proofs.StoreLaws.{clean_taken}
+use Rattle.vab_device.specs.Stores.{is_one}
 
 -- ---- the statuses
 
@@ -186,7 +188,9 @@ by_name w None image s is =
     let e : (record { name = w.name; chunk = w.chunk; exceptions = [] }) ≡ s = cc in
     sym (ap (λ (x : Scanned). x.name) e)
 by_name w (Some store) image s is =
-    taken_name w (scan_of w.chunk store (length w.base) image) s is
+    let read = scan_read w (scan_of w.chunk store (length w.base) image) in
+    taken_name w (scan_of w.chunk store (length w.base) image) s
+    (clean_taken (w.clean && is_one w.chunk) w.name store image read s is)
 
 scan_name : (w : Wanted) (image : Image) (s : Scanned) → scan_at w image ≡ Ok s → s.name ≡ w.name
 unfolding scan_at

@@ -318,6 +318,7 @@ module _ (d : Device) (size : ℕ) (old : Image) (device_is : IsDevice d size)
         chunk = chunk;
         count = length es;
         fewer = false;
+        clean = false;
       }
 
       wanted_one : wanted_of i.base.apart (other_slot i.slot) (layout_of i.target)

@@ -15,33 +15,14 @@ pub fn written(device: Device, place: usize, chunk: Chunk, view: StoreView) -> D
     requires { place < length (plan_or device.plan) }
     ensures { result ≡ with_written device place chunk view }
 {
-    let Device {
-        geometry,
-        control,
-        mark,
-        cap,
-        groups,
-        a,
-        b,
-        table_a,
-        table_b,
-        plan,
-    } = device;
-    let mut items = match plan {
+    let mut device = device;
+    let mut items = match device.plan.take() {
         Some(plan) => plan.into_vec(),
         None => unreachable!(),
     };
     items[place].image = PartImage::Written(chunk, view);
     Device {
-        geometry,
-        control,
-        mark,
-        cap,
-        groups,
-        a,
-        b,
-        table_a,
-        table_b,
         plan: Some(Listing::from_vec(items)),
+        ..device
     }
 }

@@ -27,6 +27,7 @@ const IDLE: UpdateMark = UpdateMark {
     phase: MarkPhase::Idle,
     slot: 0,
     apart: false,
+    overlaid: false,
 };
 
 #[test]
@@ -35,20 +36,22 @@ fn marks_as_bytes(rt: HostRuntime) {
         phase: MarkPhase::Merging,
         slot: 1,
         apart: false,
+        overlaid: false,
     };
     let bytes = encode_mark(&mark);
     let sum = [0x0c, 0x0b, 0x94, 0xb3];
     assert!(rt; is_sector(&bytes, b"VABU\x02\x03\x01\0", sum));
     assert!(rt; decode_mark(&bytes) == Ok(mark));
     let front = |phase: u8| [b'V', b'A', b'B', b'U', 2, phase, 0, 0];
-    for (byte, phase, apart) in [
-        (0, MarkPhase::Idle, false),
-        (1, MarkPhase::Installing, false),
-        (2, MarkPhase::Staged, false),
-        (3, MarkPhase::Merging, false),
-        (4, MarkPhase::Completed, false),
-        (5, MarkPhase::Installing, true),
-        (6, MarkPhase::Staged, true),
+    for (byte, phase, apart, overlaid) in [
+        (0, MarkPhase::Idle, false, false),
+        (1, MarkPhase::Installing, false, false),
+        (2, MarkPhase::Staged, false, false),
+        (3, MarkPhase::Merging, false, false),
+        (4, MarkPhase::Completed, false, false),
+        (5, MarkPhase::Installing, true, false),
+        (6, MarkPhase::Staged, true, false),
+        (7, MarkPhase::Idle, false, true),
     ] {
         let mut bytes = [0; 512];
         bytes[..8].copy_from_slice(&front(byte));
@@ -57,8 +60,10 @@ fn marks_as_bytes(rt: HostRuntime) {
             phase,
             slot: 0,
             apart,
+            overlaid,
         };
         assert!(rt; decode_mark(&bytes) == Ok(mark), "{byte}");
+        assert!(rt; encode_mark(&mark) == bytes, "{byte}");
     }
     let ready = IDLE.begun(true).with_phase(MarkPhase::Staged);
     assert!(rt; ready.apart && ready.phase == MarkPhase::Staged);
@@ -72,6 +77,7 @@ fn a_mark_of_version_1_is_read(rt: HostRuntime) {
         phase: MarkPhase::Merging,
         slot: 1,
         apart: false,
+        overlaid: false,
     };
     let mut bytes = [0u8; 512];
     bytes[..8].copy_from_slice(b"VABU\x01\x03\x01\0");
@@ -104,7 +110,7 @@ fn faults_of_a_mark_in_their_order(rt: HostRuntime) {
         (&[(6, 2), (4, 0)], false, MarkFault::BadVersion),
         (&[(6, 2), (4, 3)], false, MarkFault::BadVersion),
         (&[(6, 2), (4, 3), (3, b'S')], false, MarkFault::BadMagic),
-        (&[(5, 7)], true, MarkFault::BadField),
+        (&[(5, 8)], true, MarkFault::BadField),
         (&[(507, 1)], true, MarkFault::BadField),
     ] {
         assert!(rt; fault_of(changes, summed) == Some(fault), "{fault:?}");

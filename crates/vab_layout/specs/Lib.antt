@@ -2,3 +2,4 @@ pub mod Layout
 pub mod Rules
 pub mod Slots
 pub mod Plain
+pub mod Overlay

@@ -57,7 +57,9 @@ state_words rule =
     then codes "the current slot has no images"
     else (if rule == 2
     then codes "a slot isn't successful or has priority 0"
-    else codes "a partition that is written has no status")
+    else (if rule == 3
+    then codes "a partition that is written has no status"
+    else codes "an overlaid slot hasn't exactly one partition with a store"))
 
 -- the first thing wrong with a disk
 unfoldable pub fault_words : StartFault → List ℕ
@@ -70,7 +72,7 @@ fault_words faults.BadGeometry = codes "no copy of the geometry passes, or super
 fault_words (faults.BadTable slot) = codes "slot " ++ slot_letter slot ++ codes " has no good table"
 fault_words (faults.BadPartition name) = codes "partition " ++ name ++ codes " breaks a rule"
 fault_words (faults.BadStore name) =
-    codes "the store of " ++ name ++ codes " isn't what its status says"
+    codes "the store of " ++ name ++ codes " isn't what its status or the overlay says"
 fault_words (faults.BadState rule) = state_words rule
 fault_words faults.NoMemory = codes "out of memory"
 fault_words (faults.Disk fault) = codes "the disk failed"

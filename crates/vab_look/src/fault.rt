@@ -105,8 +105,10 @@ fn put_state_fault(rule: u8, out: &mut Line)
         put(b"the current slot has no images", out)
     } else if rule == 2 {
         put(b"a slot isn't successful or has priority 0", out)
-    } else {
+    } else if rule == 3 {
         put(b"a partition that is written has no status", out)
+    } else {
+        put(b"an overlaid slot hasn't exactly one partition with a store", out)
     }
 }
 
@@ -154,7 +156,7 @@ pub(crate) fn put_fault(fault: &StartFault, out: &mut Line)
         }
         StartFault::BadPartition(name) => put_named(b"partition ", name, b" breaks a rule", out),
         StartFault::BadStore(name) => {
-            put_named(b"the store of ", name, b" isn't what its status says", out)
+            put_named(b"the store of ", name, b" isn't what its status or the overlay says", out)
         }
         StartFault::BadState(rule) => put_state_fault(*rule, out),
         StartFault::NoMemory => put(b"out of memory", out),

@@ -20,6 +20,7 @@ use Rattle.vab_model.specs.declared.state.Plan.{Plan}
 use Rattle.vab_model.specs.declared.state.State.{State}
 use Rattle.vab_model.specs.Plans.{blocks_in, want_of, in_use, same_group}
 use Rattle.vab_model.specs.Plans.{group_bytes, listed, images_of, twins_of}
+use Rattle.vab_model.specs.Overlay.{store_of_size, used_over}
 use Rattle.vab_model.specs.Machine.{exceptions_of, exceptions_in}
 use Rattle.vab_machine.specs.Small.{AreSmallImages, IsSmallSlot, IsSmallImage, IsSmallEntry}
 use Rattle.vab_machine.specs.Small.{IsSmallPlan, IsSmall}
@@ -86,6 +87,27 @@ pub state_in_use_fits : (s : State) (source : ℕ) (plan : Plan)
     → in_use (images_of s source) plan < 2 ^ 63
 state_in_use_fits s source plan small =
     in_use_fits (images_of s source) plan (images_small s source small)
+
+-- a store of so many bytes over a partition of so many blocks
+pub store_fits : (blocks size : ℕ)
+    → blocks < 2 ^ 52
+    → size < 2 ^ 64
+    → store_of_size blocks size ≤ 2 ^ 55
+store_fits blocks size few small = elim (cases_Bool (eqb size 0)) [
+  | inl t ↦ rw t (omega (arith, few))
+  | inr f ↦ rw f (omega (arith, small))
+]
+
+-- beside the images of a slot
+pub overlay_fits : (s : State) (slot blocks size : ℕ)
+    → IsSmall s
+    → blocks < 2 ^ 52
+    → size < 2 ^ 64
+    → used_over (images_of s slot) (store_of_size blocks size) < 2 ^ 63
+overlay_fits s slot blocks size small few low =
+    let kept = image_most (images_of s slot) (images_small s slot small) in
+    let stored = store_fits blocks size few low in
+    omega (arith, kept, stored)
 
 -- an entry more of which a group has bytes
 pub group_more : (group : Option (List ℕ)) (e : PlanEntry) (es : List PlanEntry)

@@ -5,7 +5,7 @@ use Rattle.vab_names.specs.Names.{is_full}
 use Rattle.vab_model.specs.declared.command.Refusal.TheVariants.{BadName}
 use Rattle.vab_model.specs.declared.state.Image.{Image}
 use Rattle.vab_model.specs.declared.state.State.{State}
-use Rattle.vab_model.specs.Effects.{Found, Image_is, Refused_by, found_in, found_of}
+use Rattle.vab_model.specs.Effects.{Found, Image_is, Refused_by, found_in, found_under}
 use Rattle.vab_model.proofs.Names.{full_is}
 
 of_a_slot : (a b : Bool) (x y : Found) (image : Image)
@@ -16,7 +16,7 @@ of_a_slot false true x y image h = inr refl
 of_a_slot false false x y image h = absurd cc
 
 pub found_is_name : (s : State) (name : List ℕ) (image : Image)
-    → found_of s name ≡ Image_is image
+    → found_under s name ≡ Image_is image
     → IsName name
 found_is_name s name image h =
     elim (of_a_slot (is_full 0 name) (is_full 1 name) (found_in s.a name) (found_in s.b name) image

@@ -6,7 +6,7 @@ use Rattle.std.specs.List.{ends_with, filter}
 use Rattle.std.specs.Str.{bytes_eq}
 use Rattle.std.proofs.lemmas.Bool.{cases_Bool}
 use Rattle.vab_names.specs.Names.{suffix_of, is_of_slot, is_base, base_of, default_name}
-use Rattle.vab_names.specs.Names.{most_partitions}
+use Rattle.vab_names.specs.Names.{is_full, most_partitions}
 use Rattle.vab_geometry.specs.declared.geometry.Geometry.{Geometry}
 use Rattle.vab_geometry.specs.declared.geometry.GeometryFault.{GeometryFault}
 use Rattle.vab_tables.specs.declared.fault.TableFault.{TableFault}
@@ -31,6 +31,10 @@ same_suffix slot = elim (cases_Bool (eqb slot 0)) [
 pub of_side : (slot : ℕ) (name : List ℕ) → is_of_slot (a_or_b slot) name ≡ is_of_slot slot name
 unfolding is_of_slot
 of_side slot name = ap (ends_with nat_eq name) (same_suffix slot)
+
+pub full_side : (slot : ℕ) (name : List ℕ) → is_full (a_or_b slot) name ≡ is_full slot name
+unfolding is_full
+full_side slot name = ap (λ (b : Bool). b && is_base (base_of name)) (of_side slot name)
 
 -- ---- partitions
 

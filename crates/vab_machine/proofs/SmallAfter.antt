@@ -1,19 +1,21 @@
 -- The state after a command on a small state is small.
-use Rattle.std.proofs.Common.{◌≡◌, ℕ, zero, suc, ◌-◌, ◌*◌, ◌^◌, ◌≤◌, Bool, true}
+use Rattle.std.proofs.Common.{◌≡◌, ℕ, zero, suc, ◌+◌, ◌-◌, ◌*◌, ◌^◌, ◌≤◌, ◌<◌, Bool, true}
 use Rattle.std.proofs.Common.{false}
 use Rattle.std.proofs.Common.{List, [], ◌∷◌, ◌++◌, length, Option, Some, None, eqb, inl, inr, refl}
 use Rattle.std.proofs.Common.{arith, length-append}
 use Rattle.std.specs.Prelude.{All, map, replicate, nat_le, nat_lt, not, is_some, ◌&&◌, ◌||◌, ◌==◌}
+use Rattle.std.specs.List.{list_any}
 use Rattle.std.specs.Str.{bytes_eq}
-use Rattle.std.proofs.lemmas.Bool.{cases_Bool, leb-true, ltb-true, and_parts}
+use Rattle.std.proofs.lemmas.Bool.{cases_Bool, eqb-true, leb-true, ltb-true, and_parts}
 use Rattle.std.proofs.lemmas.List.{length-map, length-replicate}
 use Rattle.std.proofs.lemmas.List.Elements.{All-map, All-weaker, All-head}
 use Rattle.std.proofs.lemmas.List.Elements.{All-tail}
+use Rattle.vab_bytes.proofs.NumberLaws.{length-put_at}
 use Rattle.vab_bootctl.specs.declared.slots.Control.{Control}
-use Rattle.vab_bootctl.specs.Boot.{info_at, activated_of}
+use Rattle.vab_bootctl.specs.Boot.{info_at, activated_of, booted_of, marked_of}
 use Rattle.vab_names.specs.Names.{is_full, base_of, most_partitions}
 use Rattle.vab_space.specs.declared.Chunk.{Chunk}
-use Rattle.vab_space.specs.Space.{blocks_of}
+use Rattle.vab_space.specs.Space.{blocks_of, need_of}
 use Rattle.vab_space.specs.Chunks.{need_at}
 use Rattle.vab_space.proofs.DifferingLaws.{differing_most}
 use Rattle.vab_tables.specs.declared.table.Table.{Table}
@@ -29,20 +31,28 @@ use Rattle.vab_model.specs.declared.state.PlanEntry.{PlanEntry}
 use Rattle.vab_model.specs.declared.state.Plan.{Plan}
 use Rattle.vab_model.specs.declared.state.Phase.{Phase}
 use Rattle.vab_model.specs.declared.state.Phase.TheVariants.{Idle, Installing, Staged, Merging}
+use Rattle.vab_model.specs.declared.state.Overlay.{Overlay as OverlayOf}
 use Rattle.vab_model.specs.declared.state.State.{State}
 use Rattle.vab_model.specs.declared.command.Refusal.{Refusal}
 use Rattle.vab_model.specs.declared.command.Refusal.TheVariants as refusals
 use Rattle.vab_model.specs.declared.command.Reply.TheVariants as replies
 use Rattle.vab_model.specs.Commands.{Command, SetActive, Boot, Mark, Print, Digest, Begin, Create}
 use Rattle.vab_model.specs.Commands.{Resize, Delete, Snapshot, Flash, Finish, Cancel, BeginMerge}
-use Rattle.vab_model.specs.Commands.{Merge, Factory, UpdateSuper}
+use Rattle.vab_model.specs.Commands.{Merge, Factory, UpdateSuper, Overlay, OverlayWrite}
+use Rattle.vab_model.specs.Commands.{OverlayDiscard}
 use Rattle.vab_model.specs.Effects.{Effect, after_of, last_of, active_effect, found_of, Found}
 use Rattle.vab_model.specs.Effects.{Image_is, Refused_by, print_effect, digest_effect, does}
-use Rattle.vab_model.specs.State.{images_at}
+use Rattle.vab_model.specs.Effects.{wanting, if_plain}
+use Rattle.vab_model.specs.State.{images_at, has_images, with_control, image_named}
+use Rattle.vab_model.specs.Over.{with_block, put_block, written_over, blank_overlay}
+use Rattle.vab_model.specs.Overlay.{store_of_size, is_store_size, used_over, overlay_image}
+use Rattle.vab_model.specs.Overlay.{overlay_effect, with_overlay, if_room as if_room_over}
+use Rattle.vab_model.specs.Overlay.{write_staged, write_row, discard_row, unless as unless_over}
 use Rattle.vab_model.specs.Plans.{other_slot, images_of, bytes_named, entry_named}
 use Rattle.vab_model.specs.Plans.{is_planned, first_group, created_entry, at_entry, begun_plan}
 use Rattle.vab_model.specs.Plans.{resized_entry, stored_entry, in_use, group_bytes, limit_of}
-use Rattle.vab_model.specs.Plans.{is_within, without_entry, with_entries}
+use Rattle.vab_model.specs.Plans.{is_within, without_entry, with_entries, blocks_in}
+use Rattle.vab_model.specs.Plans.{bytes_or_none}
 use Rattle.vab_model.specs.Staged.{is_sparse, filled, differs, differences}
 use Rattle.vab_model.specs.Machine.{unless, if_installing, if_planned, planned, if_room}
 use Rattle.vab_model.specs.Machine.{if_within}
@@ -56,8 +66,10 @@ use Rattle.vab_model.specs.Machine.{begin_merge_row, turns, merge_row, machine_e
 use Rattle.vab_model.specs.Wipe.{empty_image, empty_images, wiped, no_judge, filled_refusal}
 use Rattle.vab_model.specs.Wipe.{if_passing, judged_effect, staged_effect, wipe_effect}
 use Rattle.vab_machine.specs.Small.{AreSmallImages, IsSmallSlot, IsSmallImage, IsSmallEntry}
-use Rattle.vab_machine.specs.Small.{IsSmallPlan, IsSmallPhase, IsSmall}
-use Rattle.vab_machine.proofs.Bounds.{images_small}
+use Rattle.vab_machine.specs.Small.{IsSmallPlan, IsSmallPhase, IsSmallOver, IsSmallOverlay}
+use Rattle.vab_machine.specs.Small.{IsSmall}
+use Rattle.vab_machine.specs.Begun.{begun_over}
+use Rattle.vab_machine.proofs.Bounds.{images_small, store_fits}
 use Rattle.vab_machine.proofs.SmallLaws.{entry_small, resize_small, store_plan_small, create_small}
 use Rattle.vab_machine.proofs.SmallLaws.{delete_small, write_small, begin_small}
 use Rattle.vab_super_image.proofs.OwnLaws.{image_own}
@@ -98,7 +110,12 @@ plan_kept : (s : State) (source : ℕ) (plan : Plan)
     → IsSmall s
     → IsSmallPlan plan.entries
     → Keeps s (planned s source plan)
-plan_kept s source plan small next = record { a = small.a; b = small.b; phase = next }
+plan_kept s source plan small next = record {
+  a = small.a;
+  b = small.b;
+  phase = next;
+  overlay = small.overlay;
+}
 
 room_kept : (s : State) (source : ℕ) (plan : Plan)
     → IsSmall s
@@ -365,8 +382,8 @@ finished_small s source plan small next =
     let images =
     final_small (images_of s source) plan.entries (images_small s source small) next in
     elim (cases_Bool (eqb (other_slot source) 0)) [
-      | inl t ↦ rw t (record { a = images; b = small.b; phase = tt })
-      | inr f ↦ rw f (record { a = small.a; b = images; phase = tt })
+      | inl t ↦ rw t (record { a = images; b = small.b; phase = tt; overlay = small.overlay })
+      | inr f ↦ rw f (record { a = small.a; b = images; phase = tt; overlay = small.overlay })
     ]
 
 complete_kept : (s : State) (least : Option (List ℕ)) (e : Effect State)
@@ -383,8 +400,8 @@ none_small : (s : State) (slot : ℕ) (phase : Phase)
     → IsSmallPhase phase
     → IsSmall (record (without_images s slot) { phase = phase })
 none_small s slot phase small next = elim (cases_Bool (eqb slot 0)) [
-  | inl t ↦ rw t (record { a = tt; b = small.b; phase = next })
-  | inr f ↦ rw f (record { a = small.a; b = tt; phase = next })
+  | inl t ↦ rw t (record { a = tt; b = small.b; phase = next; overlay = small.overlay })
+  | inr f ↦ rw f (record { a = small.a; b = tt; phase = next; overlay = small.overlay })
 ]
 
 cancel_kept : (s : State) (phase : Phase) → IsSmall s → Keeps s (cancel_row s phase)
@@ -417,10 +434,10 @@ turns_kept : (s x : State) (n target left : ℕ)
 unfolding turns
 turns_kept s x zero target left small last = last
 turns_kept s x (suc n) target zero small last =
-    record { a = small.a; b = small.b; phase = tt }
+    record { a = small.a; b = small.b; phase = tt; overlay = small.overlay }
 turns_kept s x (suc n) target (suc left) small last =
     turns_kept s (record s { phase = Merging target left }) n target left small
-    (record { a = small.a; b = small.b; phase = tt })
+    (record { a = small.a; b = small.b; phase = tt; overlay = small.overlay })
 
 merge_kept : (s : State) (n : ℕ) (phase : Phase) → IsSmall s → Keeps s (merge_row s n phase)
 merge_kept s n Idle small = small
@@ -450,8 +467,18 @@ wiped_small : (s : State) (slot : ℕ) (i : SuperImage)
 wiped_small s slot i small own =
     let images = empty_small slot i.table own in
     elim (cases_Bool (eqb slot 0)) [
-      | inl t ↦ rw t (record { a = images; b = small.b; phase = small.phase })
-      | inr f ↦ rw f (record { a = small.a; b = images; phase = small.phase })
+      | inl t ↦ rw t (record {
+        a = images;
+        b = small.b;
+        phase = small.phase;
+        overlay = small.overlay;
+      })
+      | inr f ↦ rw f (record {
+        a = small.a;
+        b = images;
+        phase = small.phase;
+        overlay = small.overlay;
+      })
     ]
 
 passing_kept : (s : State) (refusal : Option Refusal) (e : Effect State)
@@ -489,12 +516,146 @@ wipe_kept s slot staged (Installing source plan) small = small
 wipe_kept s slot staged (Staged source left) small = small
 wipe_kept s slot staged (Merging target left) small = small
 
+-- ---- an overlay
+
+keeps_over : (s : State) (b : Bool) (refusal : Refusal) (e : Effect State)
+    → IsSmall s
+    → (b ≡ true → Keeps s e)
+    → Keeps s (unless_over b refusal e)
+keeps_over s true refusal e small next = next refl
+keeps_over s false refusal e small next = small
+
+plain_kept : (s : State) (o : Option OverlayOf) (e : Effect State)
+    → IsSmall s
+    → Keeps s e
+    → Keeps s (if_plain o e)
+plain_kept s None e small next = next
+plain_kept s (Some o) e small next = small
+
+over_small : (s : State) (o : Option OverlayOf)
+    → IsSmall s
+    → IsSmallOverlay o
+    → IsSmall (with_overlay s o)
+over_small s o small next = record {
+  a = small.a;
+  b = small.b;
+  phase = small.phase;
+  overlay = next;
+}
+
+begun_small : (s : State) (image : Image) (store : ℕ)
+    → IsSmall s
+    → length image.bytes ≤ 2 ^ 40
+    → store ≤ 2 ^ 55
+    → Keeps s (begun_over s image store)
+begun_small s image store small short le =
+    over_small s (Some (blank_overlay image store)) small
+    (record { few = omega arith; store = le; over = short })
+
+overlay_image_kept : (s : State) (images : List Image) (size : ℕ) (image : Option Image)
+    → IsSmall s
+    → size ≤ 2 ^ 40
+    → length (bytes_or_none image) ≤ 2 ^ 40
+    → Keeps s (overlay_image s.cap images size (begun_over s) image)
+overlay_image_kept s images size None small le short = small
+overlay_image_kept s images size (Some i) small le short =
+    let store : ℕ = store_of_size (blocks_in i.bytes) size in
+    keeps_over s (nat_le (used_over images store) s.cap)
+    (refusals.NoRoom (used_over images store) s.cap) (begun_over s i store) small (λ _.
+    begun_small s i store small short
+    (store_fits (blocks_in i.bytes) size (omega (arith, short)) (omega (arith, le))))
+
+overlay_kept : (s : State) (name : List ℕ) (size : ℕ) (phase : Phase)
+    → IsSmall s
+    → Keeps s (overlay_effect s (begun_over s) name size phase)
+overlay_kept s name size Idle small =
+    let slot : ℕ = s.control.current in
+    let images : List Image = images_of s slot in
+    let found : Effect State =
+    overlay_image s.cap images size (begun_over s) (image_named (base_of name) images) in
+    let sized : Effect State = unless_over (is_store_size size) refusals.BadSize found in
+    let some : Bool = size == 0 || nat_lt 1 (blocks_of size) in
+    keeps_over s (is_full slot name) refusals.BadName sized small (λ _.
+    keeps_over s (is_store_size size) refusals.BadSize found small (λ within.
+    overlay_image_kept s images size (image_named (base_of name) images) small
+    (leb-true size (2 ^ 40) (and_parts (nat_le size (2 ^ 40)) some within).0)
+    (bytes_short (base_of name) images (images_small s slot small).each)))
+overlay_kept s name size (Installing source plan) small = small
+overlay_kept s name size (Staged source left) small = small
+overlay_kept s name size (Merging target left) small = small
+
+with_block_most : (block : ℕ) (blocks : List ℕ)
+    → length (with_block block blocks) ≤ length blocks + 1
+with_block_most block blocks = elim (cases_Bool (list_any (λ b. b == block) blocks)) [
+  | inl t ↦ rw t (omega arith)
+  | inr f ↦ rw f (omega (arith, length-append blocks (block ∷ [])))
+]
+
+put_length : (bytes : List ℕ) (block : ℕ) (from : List ℕ)
+    → length from ≡ 4096
+    → block < blocks_in bytes
+    → length (put_block bytes block from) ≡ length bytes
+put_length bytes block from one low =
+    length-put_at bytes (4096 * block) from (omega (arith, one, low))
+
+room_over_kept : (s : State) (o : OverlayOf) (block : ℕ) (bytes : List ℕ)
+    → IsSmall s
+    → IsSmallOver o
+    → length bytes ≡ 4096
+    → block < blocks_in o.bytes
+    → Keeps s (if_room_over s o block bytes)
+room_over_kept s o block bytes small over one low =
+    let need : ℕ = need_of (length o.blocks + 1) in
+    let next : OverlayOf = written_over block bytes o in
+    keeps_over s (nat_le need o.store) (refusals.StoreFull need o.store)
+    (wanting true (does replies.Done (with_overlay s (Some next)))) small (λ fits.
+    let le : need ≤ o.store = leb-true need o.store fits in
+    over_small s (Some next) small (record {
+      few = omega (arith, with_block_most block o.blocks, le, over.store);
+      store = over.store;
+      over = omega (arith, put_length o.bytes block bytes one low, over.over);
+    }))
+
+staged_write_kept : (s : State) (o : OverlayOf) (block : ℕ) (staged : Option (List ℕ))
+    → IsSmall s
+    → IsSmallOver o
+    → Keeps s (write_staged s o block staged)
+staged_write_kept s o block None small over = small
+staged_write_kept s o block (Some bytes) small over =
+    let blocks : ℕ = blocks_in o.bytes in
+    let written : Effect State = if_room_over s o block bytes in
+    let below : Effect State =
+    unless_over (nat_lt block blocks) (refusals.BadBlock block blocks) written in
+    keeps_over s (length bytes == 4096) (refusals.BadLength (length bytes)) below small (λ one.
+    keeps_over s (nat_lt block blocks) (refusals.BadBlock block blocks) written small (λ low.
+    room_over_kept s o block bytes small over (eqb-true (length bytes) 4096 one)
+    (ltb-true block blocks low)))
+
+write_kept : (s : State) (staged : Option (List ℕ)) (block : ℕ) (o : Option OverlayOf)
+    → IsSmall s
+    → IsSmallOverlay o
+    → Keeps s (write_row s staged block o)
+write_kept s staged block None small next = small
+write_kept s staged block (Some o) small next = staged_write_kept s o block staged small next
+
+discard_kept : (s : State) (o : Option OverlayOf) → IsSmall s → Keeps s (discard_row s o)
+discard_kept s None small = small
+discard_kept s (Some o) small = over_small s None small tt
+
 -- ---- the table
+
+control_small : (s : State) (c : Control) → IsSmall s → IsSmall (with_control c s)
+control_small s c small = record {
+  a = small.a;
+  b = small.b;
+  phase = small.phase;
+  overlay = small.overlay;
+}
 
 active_kept : (s : State) (has : Bool) (c : Control)
     → IsSmall s
     → Keeps s (active_effect has s c)
-active_kept s true c small = record { a = small.a; b = small.b; phase = small.phase }
+active_kept s true c small = control_small s c small
 active_kept s false c small = small
 
 print_kept : (s : State) (name : List ℕ) (f : Found) → IsSmall s → Keeps s (print_effect name f)
@@ -511,12 +672,14 @@ pub small_after : (s : State) (staged : Option (List ℕ)) (c : Command)
 unfolding machine_effect
 small_after s staged (SetActive slot) small =
     active_kept s (is_some (images_at s slot)) (activated_of s.control slot) small
-small_after s staged Boot small = record { a = small.a; b = small.b; phase = small.phase }
-small_after s staged Mark small = record { a = small.a; b = small.b; phase = small.phase }
+small_after s staged Boot small = control_small s (booted_of s.control (has_images s)) small
+small_after s staged Mark small = control_small s (marked_of s.control) small
 small_after s staged (Print name) small = print_kept s name (found_of s name) small
 small_after s staged (Digest name) small = digest_kept s (found_of s name) small
-small_after s staged Begin small = begin_kept s false s.phase small
-small_after s staged Factory small = begin_kept s true s.phase small
+small_after s staged Begin small =
+    plain_kept s s.overlay (begin_row s false s.phase) small (begin_kept s false s.phase small)
+small_after s staged Factory small =
+    plain_kept s s.overlay (begin_row s true s.phase) small (begin_kept s true s.phase small)
 small_after s staged (Create name size) small =
     keeps_installing s s.phase (create_row s name size) small small.phase
     (λ source plan next. create_kept s name size source plan small next)
@@ -540,4 +703,13 @@ small_after s staged Finish small =
 small_after s staged Cancel small = cancel_kept s s.phase small
 small_after s staged BeginMerge small = begin_merge_kept s s.phase small
 small_after s staged (Merge count) small = merge_kept s count s.phase small
-small_after s staged UpdateSuper small = wipe_kept s s.control.current staged s.phase small
+small_after s staged UpdateSuper small =
+    plain_kept s s.overlay
+    (wipe_effect no_judge no_judge (wiped s s.control.current) s.control.current staged s.phase)
+    small (wipe_kept s s.control.current staged s.phase small)
+small_after s staged (Overlay name size) small =
+    plain_kept s s.overlay (overlay_effect s (begun_over s) name size s.phase) small
+    (overlay_kept s name size s.phase small)
+small_after s staged (OverlayWrite block) small =
+    write_kept s staged block s.overlay small small.overlay
+small_after s staged OverlayDiscard small = discard_kept s s.overlay small

@@ -2,3 +2,4 @@ pub mod Small
 pub mod Changes
 pub mod Places
 pub mod Sides
+pub mod Begun

@@ -8,6 +8,7 @@ use Rattle.vab_model.specs.declared.state.PlanImage.TheVariants.{Kept, Declared,
 use Rattle.vab_model.specs.declared.state.PlanEntry.{PlanEntry}
 use Rattle.vab_model.specs.declared.state.Phase.{Phase}
 use Rattle.vab_model.specs.declared.state.Phase.TheVariants.{Idle, Installing, Staged, Merging}
+use Rattle.vab_model.specs.declared.state.Overlay.{Overlay}
 use Rattle.vab_model.specs.declared.state.State.{State}
 use Rattle.vab_model.specs.Plans.{store_blocks}
 
@@ -46,7 +47,18 @@ IsSmallPhase (Installing source plan) = IsSmallPlan plan.entries
 IsSmallPhase (Staged source left) = Unit {0}
 IsSmallPhase (Merging target left) = Unit {0}
 
+-- at most 2^55 blocks written, in a store of at most 2^55, over at most 2^40 bytes
+pub record IsSmallOver (o : Overlay) : Type 0 where
+  pub few : length o.blocks ≤ 2 ^ 55
+  pub store : o.store ≤ 2 ^ 55
+  pub over : length o.bytes ≤ 2 ^ 40
+
+abbrev pub IsSmallOverlay : Option Overlay → Type 0
+IsSmallOverlay None = Unit {0}
+IsSmallOverlay (Some o) = IsSmallOver o
+
 pub record IsSmall (s : State) : Type 0 where
   pub a : IsSmallSlot s.a
   pub b : IsSmallSlot s.b
   pub phase : IsSmallPhase s.phase
+  pub overlay : IsSmallOverlay s.overlay

@@ -104,8 +104,8 @@ fn resized(alloc: Global, entry: &PlanEntry, blocks: u64) -> Result<PlanEntry, N
     })
 }
 
-// Blocks of a store of so many bytes.
-fn store_size(planned: u64, size: u64) -> u64
+/// Blocks of a store of so many bytes, over so many blocks.
+pub(crate) fn store_size(planned: u64, size: u64) -> u64
     requires { planned < 2 ^ 63 }
     ensures { result ≡ (if size == 0 then need_of planned else blocks_of size) }
 {

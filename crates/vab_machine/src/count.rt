@@ -12,7 +12,8 @@ use vab_space::{Want, used};
 
 /// Whole blocks of 4096 bytes of an image.
 pub(crate) fn blocks_in(bytes: &[u8]) -> u64
-    ensures { result ≡ blocks_in bytes.now }
+    ensures is { result ≡ blocks_in bytes.now }
+    ensures few { result < 2 ^ 52 }
 {
     bytes.len() as u64 / 4096
 }

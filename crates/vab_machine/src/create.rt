@@ -1,7 +1,7 @@
 //! The begin of an update, and a partition more.
 
 ghost use Rattle.std.specs.Prelude.{◌≡◌, ◌^◌, IfOk};
-ghost use Rattle.vab_model.specs.Effects.{after_of};
+ghost use Rattle.vab_model.specs.Effects.{after_of, if_plain};
 ghost use Rattle.vab_model.specs.Machine.{begin_row, create_row, if_installing};
 ghost use Rattle.vab_machine.specs.Small.{IsSmall};
 
@@ -15,12 +15,19 @@ use vab_names::MAX_PARTITIONS;
 /// The most bytes of a partition.
 pub(crate) const MOST: u64 = 1 << 40;
 
-/// An update from the current slot, whose target stands apart or not.
+/// An update from the current slot, whose target stands apart or not; over no overlay.
 pub(crate) fn begin(alloc: Global, state: &State, apart: bool) -> Result<(State, Reply), NoMemory>
     ensures state { IfOk result
-        (λ r. r.0 ≡ after_of state.now (begin_row state.now apart state.now.phase)) }
-    ensures reply { IfOk result (λ r. r.1 ≡ (begin_row state.now apart state.now.phase).reply) }
+        (λ r. r.0
+        ≡ after_of state.now
+        (if_plain state.now.overlay (begin_row state.now apart state.now.phase))) }
+    ensures reply { IfOk result
+        (λ r. r.1
+        ≡ (if_plain state.now.overlay (begin_row state.now apart state.now.phase)).reply) }
 {
+    if state.overlay.is_some() {
+        return refuse(alloc, state, Refusal::NotIdle);
+    }
     let Phase::Idle = &state.phase else {
         return refuse(alloc, state, Refusal::NotIdle);
     };

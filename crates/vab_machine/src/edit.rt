@@ -1,9 +1,9 @@
 //! Edits of a partition that is planned.
 
-ghost use Rattle.std.specs.Prelude.{◌≡◌, ◌≤◌, ◌^◌, ◌&&◌, ◌||◌, ◌==◌, nat_le, nat_lt, IfOk};
-ghost use Rattle.vab_space.specs.Space.{blocks_of};
+ghost use Rattle.std.specs.Prelude.{◌≡◌, ◌≤◌, ◌^◌, IfOk};
 ghost use Rattle.vab_model.specs.Effects.{after_of};
 ghost use Rattle.vab_model.specs.Machine.{resize_row, delete_row, snapshot_row, if_installing};
+ghost use Rattle.vab_model.specs.Overlay.{is_store_size};
 ghost use Rattle.vab_machine.specs.Small.{IsSmall};
 
 use crate::answer::{if_room, if_within, planned, refuse};
@@ -79,10 +79,9 @@ pub(crate) fn delete(alloc: Global, state: &State, name: &[u8]) -> Result<(State
     planned(alloc, state, source, with_entries(plan, next))
 }
 
-// Whether a store may have so many bytes: none, or more than a block.
-fn is_store_size(size: u64) -> bool
-    ensures { result
-        ≡ (nat_le size (2 ^ 40) && (size == 0 || nat_lt 1 (blocks_of size))) }
+/// Whether a store may have so many bytes: none, or more than a block.
+pub(crate) fn is_store_size(size: u64) -> bool
+    ensures { result ≡ is_store_size size }
 {
     size <= MOST && (size == 0 || 1 < blocks(size))
 }

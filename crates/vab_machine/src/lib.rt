@@ -12,6 +12,8 @@ mod edit;
 mod flash;
 mod images;
 mod machine;
+mod over;
+mod overlay;
 mod parts;
 mod ready;
 mod slots;

@@ -12,6 +12,7 @@ use crate::create::{begin, create};
 use crate::edit::{delete, resize, snapshot};
 use crate::flash::flash;
 use crate::images::{digested, printed};
+use crate::overlay::{discard, overlay, write};
 use crate::ready::finish;
 use crate::slots::{begin_merge, cancel, merge};
 use crate::wipe::update_super;
@@ -51,6 +52,9 @@ fn done(
         Command::BeginMerge => begin_merge(alloc, state),
         Command::Merge(count) => merge(alloc, state, count),
         Command::UpdateSuper => update_super(alloc, state, staged),
+        Command::Overlay(name, size) => overlay(alloc, state, name, size),
+        Command::OverlayWrite(block) => write(alloc, state, staged, block),
+        Command::OverlayDiscard => discard(alloc, state),
     }
 }
 

@@ -9,6 +9,7 @@ ghost use Rattle.vab_model.specs.Effects.{Effect, refuses};
 ghost use Rattle.vab_model.specs.Machine.{if_installing, is_written, is_settled};
 ghost use Rattle.vab_model.specs.Plans.{other_slot, images_of, twins_of, bytes_named, entry_named};
 ghost use Rattle.vab_model.specs.Plans.{is_planned, same_group, first_group};
+ghost use Rattle.vab_machine.specs.Sides.{a_or_b};
 
 use vab_bytes::{Listing, Name36};
 use vab_model::{GroupLimit, Image, Phase, Plan, PlanEntry, PlanImage, Refusal, State};
@@ -20,6 +21,14 @@ pub(crate) fn other_slot(slot: usize) -> usize
     ensures low { result < 2 }
 {
     if slot == 0 { 1 } else { 0 }
+}
+
+/// A slot as 0 or 1: any but 0 is b.
+pub(crate) fn a_or_b(slot: usize) -> usize
+    ensures is { result ≡ a_or_b slot }
+    ensures low { result < 2 }
+{
+    if slot == 0 { 0 } else { 1 }
 }
 
 /// The source of an update that is installed, and the plan of its target.

@@ -2,13 +2,14 @@
 
 ghost use Rattle.std.specs.Prelude.{◌↔◌, ◌≤◌, ◌^◌, IsTrue, length};
 ghost use Rattle.vab_machine.specs.Small.{AreSmallImages, IsSmallSlot, IsSmallImage, IsSmallEntry};
-ghost use Rattle.vab_machine.specs.Small.{IsSmallPlan, IsSmallPhase, IsSmall};
+ghost use Rattle.vab_machine.specs.Small.{IsSmallPlan, IsSmallPhase, IsSmallOverlay, IsSmall};
 
 use vab_bytes::Listing;
-use vab_model::{Image, Phase, PlanEntry, PlanImage, State};
+use vab_model::{Image, Overlay, Phase, PlanEntry, PlanImage, State};
 use vab_names::MAX_PARTITIONS;
 
-/// The most blocks of a store, and the most exceptions.
+/// The most blocks of a store, the most exceptions, and the most blocks written over a
+/// partition.
 const MOST_BLOCKS: u64 = 1 << 55;
 
 fn is_small_bytes(bytes: &[u8]) -> bool
@@ -72,11 +73,27 @@ fn is_small_phase(phase: &Phase) -> bool
     }
 }
 
+fn is_small_overlay(overlay: &Option<Overlay>) -> bool
+    ensures { IsTrue result ↔ IsSmallOverlay overlay.now }
+{
+    match overlay {
+        None => true,
+        Some(overlay) => {
+            overlay.blocks.len() as u64 <= MOST_BLOCKS
+                && overlay.store <= MOST_BLOCKS
+                && is_small_bytes(overlay.bytes.as_slice())
+        }
+    }
+}
+
 /// Whether a state is small enough for `step`, as the states of devices are: at most 64 images of
-/// 2^40 bytes each in a slot, a plan of 64 partitions of 2^28 blocks each, and stores of 2^55
-/// blocks.
+/// 2^40 bytes each in a slot, a plan of 64 partitions of 2^28 blocks each, stores of 2^55 blocks,
+/// and an overlay of 2^40 bytes with 2^55 blocks written.
 pub fn is_small(state: &State) -> bool
     ensures { IsTrue result ↔ IsSmall state.now }
 {
-    is_small_slot(&state.a) && is_small_slot(&state.b) && is_small_phase(&state.phase)
+    is_small_slot(&state.a)
+        && is_small_slot(&state.b)
+        && is_small_phase(&state.phase)
+        && is_small_overlay(&state.overlay)
 }

@@ -24,15 +24,15 @@ pub(crate) fn filled(alloc: Global, staged: &[u8], blocks: u64) -> Result<Vec<u8
     Ok(image)
 }
 
-// The bytes from a place on, where there are any.
-fn behind(bytes: &[u8], at: usize) -> &[u8]
+/// The bytes from a place on, where there are any.
+pub(crate) fn behind(bytes: &[u8], at: usize) -> &[u8]
     ensures { result.now ≡ drop at bytes.now }
 {
     if at < bytes.len() { &bytes[at..] } else { &[] }
 }
 
-// So many bytes, or as many as there are.
-fn front(bytes: &[u8], count: usize) -> &[u8]
+/// So many bytes, or as many as there are.
+pub(crate) fn front(bytes: &[u8], count: usize) -> &[u8]
     ensures { result.now ≡ take count bytes.now }
 {
     if count < bytes.len() {
@@ -44,7 +44,7 @@ fn front(bytes: &[u8], count: usize) -> &[u8]
 
 // The bytes of block i, as many as there are.
 fn block_at(bytes: &[u8], i: u64) -> &[u8]
-    requires { i < 2 ^ 40 }
+    requires { i < 2 ^ 52 }
     ensures { result.now ≡ block_at bytes.now i }
 {
     front(behind(bytes, 4096 * i as usize), 4096)

@@ -8,26 +8,18 @@ ghost use Rattle.vab_layout.specs.Layout.{layout_of, part_of};
 ghost use Rattle.vab_layout.specs.Slots.{IsOwn};
 ghost use Rattle.vab_super_image.specs.SuperImage.{super_image_of};
 ghost use Rattle.vab_super_image.specs.declared.image.SuperImage.{SuperImage as SuperImageOf};
-ghost use Rattle.vab_model.specs.Effects.{after_of};
+ghost use Rattle.vab_model.specs.Effects.{after_of, if_plain};
 ghost use Rattle.vab_model.specs.Groups.{limits_of, group_of};
 ghost use Rattle.vab_model.specs.Wipe.{empty_image, empty_images, wiped, wipe_effect, no_judge};
-ghost use Rattle.vab_machine.specs.Sides.{a_or_b};
 
 use crate::answer::refuse;
+use crate::parts::a_or_b;
 use std::alloc::Global;
 use vab_bytes::{Bytes, Listing, Name36};
 use vab_model::{GroupLimit, Image, NoMemory, Phase, Refusal, Reply, State, is_sparse};
 use vab_names::{base_of, default_group, is_of_slot};
 use vab_super_image::{SuperImage, first_filled, read_super_image};
 use vab_tables::{Group, Partition, Table};
-
-// The slot as 0 or 1: any but 0 is b.
-fn a_or_b(slot: usize) -> usize
-    ensures is { result ≡ a_or_b slot }
-    ensures low { result < 2 }
-{
-    if slot == 0 { 0 } else { 1 }
-}
 
 // Whether a name ends in the slot's suffix.
 #[tactic(auto, using(crate::proofs::SideLaws::of_side))]
@@ -159,7 +151,7 @@ fn image_in(alloc: Global, bytes: &[u8], slot: usize) -> Result<Option<SuperImag
     }
 }
 
-/// The wipe of `super`, where there is no update.
+/// The wipe of `super`, where there is no update and no overlay.
 pub(crate) fn update_super(
     alloc: Global,
     state: &State,
@@ -167,12 +159,17 @@ pub(crate) fn update_super(
 ) -> Result<(State, Reply), NoMemory>
     ensures state { IfOk result (λ r. r.0
         ≡ after_of state.now
+        (if_plain state.now.overlay
         (wipe_effect no_judge no_judge (wiped state.now state.now.control.current)
-        state.now.control.current (option_copied staged.entry) state.now.phase)) }
+        state.now.control.current (option_copied staged.entry) state.now.phase))) }
     ensures reply { IfOk result (λ r. r.1
-        ≡ (wipe_effect no_judge no_judge (wiped state.now state.now.control.current)
-        state.now.control.current (option_copied staged.entry) state.now.phase).reply) }
+        ≡ (if_plain state.now.overlay
+        (wipe_effect no_judge no_judge (wiped state.now state.now.control.current)
+        state.now.control.current (option_copied staged.entry) state.now.phase)).reply) }
 {
+    if state.overlay.is_some() {
+        return refuse(alloc, state, Refusal::NotIdle);
+    }
     let Phase::Idle = &state.phase else {
         return refuse(alloc, state, Refusal::NotIdle);
     };

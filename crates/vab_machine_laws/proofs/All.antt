@@ -3,19 +3,22 @@
 use Rattle.std.proofs.Common.{inl}
 use Rattle.vab_model.specs.Commands.{Command, SetActive, Boot, Mark, Print, Digest, Begin, Create}
 use Rattle.vab_model.specs.Commands.{Resize, Delete, Snapshot, Flash, Finish, Cancel, BeginMerge}
-use Rattle.vab_model.specs.Commands.{Merge, Factory, UpdateSuper}
+use Rattle.vab_model.specs.Commands.{Merge, Factory, UpdateSuper, Overlay, OverlayWrite}
+use Rattle.vab_model.specs.Commands.{OverlayDiscard}
 use Rattle.vab_targets.proofs.Plans.{BeginKeepsImages, EditsFollowSizes}
 use Rattle.vab_machine_laws.specs.Rows.{IsTheMachines}
 use Rattle.vab_machine_laws.specs.Edits.{IsTheMachinesOrFull, IsTheMachinesFullOrOther}
 use Rattle.vab_machine_laws.proofs.SlotRows.{set_active_row, boot_row, mark_row, print_row}
 use Rattle.vab_machine_laws.proofs.SlotRows.{digest_row, finish_is, cancel_is, begin_merge_is}
-use Rattle.vab_machine_laws.proofs.SlotRows.{merge_is, flash_is}
+use Rattle.vab_machine_laws.proofs.SlotRows.{merge_is, flash_is, overlay_write_row}
+use Rattle.vab_machine_laws.proofs.SlotRows.{overlay_discard_row}
 use Rattle.vab_machine_laws.proofs.Begins.{update_is, factory_is}
 use Rattle.vab_machine_laws.proofs.Creates.{create_is}
 use Rattle.vab_machine_laws.proofs.Deletes.{delete_is}
 use Rattle.vab_machine_laws.proofs.Snapshots.{snapshot_is}
 use Rattle.vab_machine_laws.proofs.Resizes.{resize_is}
 use Rattle.vab_machine_laws.proofs.Wipes.{wipe_is}
+use Rattle.vab_machine_laws.proofs.Overlays.{overlay_is}
 
 plainly : (c : Command) → IsTheMachines c → IsTheMachinesFullOrOther c
 plainly c row size image m staged whole is = inl (inl (row m staged))
@@ -44,3 +47,6 @@ each_is begins edits Cancel = plainly Cancel cancel_is
 each_is begins edits BeginMerge = plainly BeginMerge begin_merge_is
 each_is begins edits (Merge count) = plainly (Merge count) (merge_is count)
 each_is begins edits UpdateSuper = wipe_is
+each_is begins edits (Overlay name size) = by_table (Overlay name size) (overlay_is name size)
+each_is begins edits (OverlayWrite block) = plainly (OverlayWrite block) (overlay_write_row block)
+each_is begins edits OverlayDiscard = plainly OverlayDiscard overlay_discard_row

@@ -11,5 +11,6 @@ pub mod Groups
 pub mod Resizes
 pub mod Creates
 pub mod Wipes
+pub mod Overlays
 pub mod All
 pub mod SmallDevices

@@ -8,7 +8,7 @@ use Rattle.vab_model.specs.declared.state.Phase.TheVariants.{Idle, Installing, S
 use Rattle.vab_model.specs.declared.state.State.{State}
 use Rattle.vab_model.specs.declared.command.Reply.TheVariants as replies
 use Rattle.vab_model.specs.Commands.{SetActive, Boot, Mark, Print, Digest, Flash, Finish}
-use Rattle.vab_model.specs.Commands.{Cancel, BeginMerge, Merge}
+use Rattle.vab_model.specs.Commands.{Cancel, BeginMerge, Merge, OverlayWrite, OverlayDiscard}
 use Rattle.vab_model.specs.Effects.{Effect, effect_map, does}
 use Rattle.vab_model.specs.Machine.{machine_effect, finish_row, if_installing, least_declared}
 use Rattle.vab_model.specs.Machine.{finished as finished_state, if_complete}
@@ -59,6 +59,16 @@ digest_row name m staged =
 pub flash_is : (name : List ℕ) (chunk : Chunk) → IsTheMachines (Flash name chunk)
 flash_is name chunk m staged =
     back (in_state m) (λ s. refl) (machine_effect m.state staged (Flash name chunk))
+
+-- ---- writes over a partition
+
+pub overlay_write_row : (block : ℕ) → IsTheMachines (OverlayWrite block)
+overlay_write_row block m staged =
+    back (in_state m) (λ s. refl) (machine_effect m.state staged (OverlayWrite block))
+
+pub overlay_discard_row : IsTheMachines OverlayDiscard
+overlay_discard_row m staged =
+    back (in_state m) (λ s. refl) (machine_effect m.state staged OverlayDiscard)
 
 -- ---- cancel, begin-merge and merge
 

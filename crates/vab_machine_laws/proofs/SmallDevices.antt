@@ -18,14 +18,15 @@ use Rattle.vab_model.specs.declared.state.Image.{Image as ImageOfSlot}
 use Rattle.vab_device.specs.declared.device.Part.{Part}
 use Rattle.vab_device.specs.declared.device.PartImage.{PartImage}
 use Rattle.vab_device.specs.declared.device.PartImage.TheVariants.{Kept, Declared, Written}
-use Rattle.vab_device.specs.Kept.{IsStore, IsStored, IsPart, ArePresent}
-use Rattle.vab_device.specs.Mounted.{bytes_at, blocks_there, sectors_by}
+use Rattle.vab_device.specs.Kept.{IsStore, IsStored, IsPart, ArePresent, IsOverlay, parts_at}
+use Rattle.vab_device.specs.Mounted.{bytes_at, blocks_there, sectors_by, blocks_over, overlay_by}
+use Rattle.vab_device.specs.Mounted.{overlay_on}
 use Rattle.vab_device.specs.Mounted.{image_on, images_on, planned_on, entry_on, entries_on}
 use Rattle.vab_device.specs.Mounted.{unplanned, phase_by, state_on, count_at, count_of}
 use Rattle.vab_device.specs.Stores.{sector_seen, sectors_seen}
 use Rattle.vab_model.specs.Plans.{store_blocks}
 use Rattle.vab_machine.specs.Small.{IsSmallSlot, IsSmallImage, IsSmallEntry}
-use Rattle.vab_machine.specs.Small.{IsSmallPhase}
+use Rattle.vab_machine.specs.Small.{IsSmallPhase, IsSmallOver, IsSmallOverlay}
 use Rattle.vab_merging.proofs.CountLaws.{few_of}
 use Rattle.vab_targets.specs.Sectors.{HasWholeSectors}
 use Rattle.vab_targets.proofs.Sectors.{blocks_long}
@@ -166,6 +167,32 @@ module _ (size : ℕ) where
             are.each);
       }
 
+      exceptions_few : (x : PartImage) → count_of x ≤ 2 ^ 28 → length (blocks_over x) ≤ 2 ^ 55
+      exceptions_few Kept few = omega arith
+      exceptions_few Declared few = omega arith
+      exceptions_few (Written k es) few =
+          omega (arith, length-map es (λ (e : Exception). e.old_chunk), few)
+
+      blocks_few : (store : Option (List ℕ))
+          → store_blocks (option_map length store) ≤ 2 ^ 55
+          → length (blocks_there store) ≤ 2 ^ 55
+      blocks_few None few = omega arith
+      blocks_few (Some store) few = few
+
+      part_small : (p : Part) → IsPart size p → IsSmallOver (overlay_by image p)
+      part_small p is = record {
+        few = exceptions_few p.image (few_of size p is);
+        store = blocks_few p.store (store_few p.map p.store p.image is.store);
+        over = short p p.image is refl;
+      }
+
+      overlay_small : (parts : Option (List Part)) (o : Option Part)
+          → IsOverlay size parts o
+          → IsSmallOverlay (overlay_on image o)
+      overlay_small parts None is = tt
+      overlay_small None (Some p) is = absurd is
+      overlay_small (Some parts) (Some p) is = part_small p is.part
+
 pub devices_small : DevicesAreSmall
 unfolding state_on
 devices_small size image d small whole is = record {
@@ -173,4 +200,5 @@ devices_small size image d small whole is = record {
   b = slot_small size image whole d.b is.parts_b;
   phase =
       phase_small size image whole small d.mark (count_at d.a + count_at d.b) d.plan is.plan;
+  overlay = overlay_small size image whole small (parts_at d d.mark.slot) d.overlay is.overlay;
 }

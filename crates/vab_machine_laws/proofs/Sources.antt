@@ -1,7 +1,8 @@
--- The slot of an update's source, or of a device without an update: its table and its images.
+-- The slot of an update's source, or of a device without an update and an overlay: its table and
+-- its images.
 use Rattle.std.proofs.Common.{◌≡◌, ◌∙◌, ℕ, zero, suc, ◌≤◌, ◌<◌, List, [], ◌∷◌}
 use Rattle.std.proofs.Common.{refl, sym, ap, subst, arith, Ok, eqb}
-use Rattle.std.specs.Prelude.{Option, Some, map}
+use Rattle.std.specs.Prelude.{Option, Some, None, map}
 use Rattle.std.proofs.lemmas.Bool.{leb-true, eqb-true}
 use Rattle.vab_disk.specs.Disk.{Image}
 use Rattle.vab_bootctl.specs.declared.slots.Control.{Control}
@@ -28,6 +29,7 @@ use Rattle.vab_device.specs.declared.fault.StartFault.TheVariants.{BadState}
 use Rattle.vab_device.specs.Checks.{Check, check}
 use Rattle.vab_device.specs.Kept.{parts_of, AreParts}
 use Rattle.vab_device.specs.Mounted.{Mounted, mounted_on, state_on, image_on, phase_on}
+use Rattle.vab_device.specs.Mounted.{overlay_on}
 use Rattle.vab_device.specs.Phases.{is_good, own_check, twin_check, target_check, no_store_check}
 use Rattle.vab_device.specs.Reading.{Read, kept, IsIn, Reads, table_at}
 use Rattle.vab_device.specs.Stores.{Scanned}
@@ -36,12 +38,13 @@ use Rattle.vab_device.proofs.CheckLaws.{first_kept, check_kept}
 use Rattle.vab_device.proofs.MostLaws.{parts_all}
 use Rattle.vab_device.proofs.OwnParts.{parts_kept}
 use Rattle.vab_device.proofs.MarkLaws.{as_phase}
-use Rattle.vab_device.proofs.ReadingLaws.{device_was, idle_read_of, slot_below, apart_known}
+use Rattle.vab_device.proofs.ReadingLaws.{device_was, slot_below, flags_known}
 use Rattle.vab_device.proofs.StayLaws.{one_of}
 use Rattle.vab_edit.proofs.InstallingLaws.{read_at, two_tables}
 use Rattle.vab_targets.specs.Sectors.{HasWholeSectors}
 use Rattle.vab_targets.proofs.Sectors.{table_rules, IsRead}
 use Rattle.vab_targets.proofs.Installed.{IsReadAs, none_named, installing_of}
+use Rattle.vab_targets.proofs.PlainIdle.{plain_idle}
 
 -- The slot of the update mark: its table, whose partitions have the slot's images, and the blocks
 -- of the device.
@@ -55,7 +58,7 @@ pub record HasSource (size : ℕ) (image : Image) (m : Mounted) (slot : ℕ) : T
   pub cap : m.state.cap ≡ cap_of l.device
   pub parts : AreParts size (parts_of slot l)
 
--- ---- without an update
+-- ---- without an update and an overlay
 
 abbrev idle_at : UpdateMark
     → ℕ
@@ -78,6 +81,11 @@ phase_said : (r : Read) (image : Image)
     → (mounted_on (kept r) image).state.phase ≡ phase_on (kept r) image
 unfolding state_on
 phase_said r image = refl
+
+overlay_said : (r : Read) (image : Image)
+    → (mounted_on (kept r) image).state.overlay ≡ overlay_on image (kept r).overlay
+unfolding state_on
+overlay_said r image = refl
 
 module _
     (size : ℕ) (image : Image) (base : UpdateMark) (slot : ℕ)
@@ -151,14 +159,14 @@ pub has_idle : (size : ℕ) (image : Image) (m : Mounted)
     → HasWholeSectors size image
     → IsIn size m image
     → m.state.phase ≡ Idle
+    → m.state.overlay ≡ None
     → HasSource size image m m.state.control.current
-has_idle size image m whole is phase =
+has_idle size image m whole is phase none =
     let was = device_was size image m is in
     let r : Read = was.read in
-    let idle : r.mark.phase ≡ marks.Idle =
-    idle_read_of size r image was.reads
-    (sym (phase_said r image) ∙ sym (ap (λ (x : Mounted). x.state.phase) was.is) ∙ phase) in
-    let is_marked = as_phase r.mark marks.Idle (apart_known image r.mark was.reads.mark) idle in
+    let is_marked = plain_idle size r image was.reads
+    (sym (phase_said r image) ∙ sym (ap (λ (x : Mounted). x.state.phase) was.is) ∙ phase)
+    (sym (overlay_said r image) ∙ sym (ap (λ (x : Mounted). x.state.overlay) was.is) ∙ none) in
     let marked : r ≡ record r { mark = rephased marks.Idle r.mark } =
     (λ i. record r { mark = is_marked i }) in
     let now = subst (IsReadAs size image m) marked (record { reads = was.reads; is = was.is }) in
@@ -281,8 +289,10 @@ has_source size image m source plan whole is phase =
     let installing : r.mark.phase ≡ marks.Installing =
     installing_of r image source plan
     (sym (ap (λ (x : Mounted). x.state.phase) was.is) ∙ phase) in
+    let is_marked = as_phase r.mark marks.Installing (flags_known image r.mark was.reads.mark) refl
+    installing in
     let marked : r ≡ record r { mark = rephased marks.Installing r.mark } =
-    (λ i. record r { mark = record r.mark { phase = installing i } }) in
+    (λ i. record r { mark = is_marked i }) in
     let now = subst (IsReadAs size image m) marked (record { reads = was.reads; is = was.is }) in
     let two = two_tables size r.geometry r.mark.slot (other_slot r.mark.slot) image r.tables
     now.reads.tables in

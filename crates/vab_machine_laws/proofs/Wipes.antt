@@ -9,12 +9,13 @@ use Rattle.vab_super_image.specs.declared.image.SuperImage.{SuperImage}
 use Rattle.vab_super_image.specs.SuperImage.{super_image_of, first_filled, wiped as wiped_table}
 use Rattle.vab_model.specs.declared.state.Phase.{Phase}
 use Rattle.vab_model.specs.declared.state.Phase.TheVariants.{Idle, Installing, Staged, Merging}
+use Rattle.vab_model.specs.declared.state.Overlay.{Overlay}
 use Rattle.vab_model.specs.declared.state.State.{State}
 use Rattle.vab_model.specs.declared.command.Refusal.{Refusal}
 use Rattle.vab_model.specs.declared.command.Refusal.TheVariants as refusals
 use Rattle.vab_model.specs.declared.command.Reply.TheVariants as replies
 use Rattle.vab_model.specs.Commands.{UpdateSuper}
-use Rattle.vab_model.specs.Effects.{Effect, does, wanting}
+use Rattle.vab_model.specs.Effects.{Effect, does, wanting, if_plain}
 use Rattle.vab_model.specs.Machine.{machine_effect}
 use Rattle.vab_model.specs.Staged.{is_sparse}
 use Rattle.vab_model.specs.Wipe.{no_judge, filled_refusal, if_passing, judged_effect}
@@ -124,7 +125,16 @@ module _ (m : Mounted) (slot : ℕ) where
   row_is staged (Staged source left) = inl (inl refl)
   row_is staged (Merging target left) = inl (inl refl)
 
+  -- neither wipes under an overlay
+  over_is : (staged : Option (List ℕ)) (phase : Phase) (o : Option Overlay)
+      → Are
+      (if_plain o (wipe_effect (other_super m.places slot) (full_super m.places) (wiped m slot) slot
+      staged phase))
+      (if_plain o (wipe_effect no_judge no_judge (wiped_state m.state slot) slot staged phase))
+  over_is staged phase None = row_is staged phase
+  over_is staged phase (Some o) = inl (inl refl)
+
 pub wipe_is : IsTheMachinesFullOrOther UpdateSuper
 unfolding machine_effect
 wipe_is size image m staged whole is =
-    row_is m m.state.control.current staged m.state.phase
+    over_is m m.state.control.current staged m.state.phase m.state.overlay

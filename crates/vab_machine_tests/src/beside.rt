@@ -79,6 +79,24 @@ fn next_of(
     }
 }
 
+// What the disk makes of a command: the state behind it and the reply.
+fn held(
+    alloc: Global,
+    d: &mut MemPort,
+    command: &Command,
+    staged: Option<&[u8]>,
+) -> Result<(State, Reply), Fail> {
+    let (device, told) = carried(alloc, d, command, staged).ok_or("a command is carried out")?;
+    Ok((state_of(alloc, d, &device)?, told))
+}
+
+// Both states are the same.
+fn is_same(alloc: Global, left: &State, right: &State) -> Result<bool, Fail> {
+    let left = spelled(alloc, left)?;
+    let right = spelled(alloc, right)?;
+    Ok(left.as_slice() == right.as_slice())
+}
+
 /// Carries out a command on the device of a disk, and on the machine in this state, which is that
 /// of the device. The replies are the same; or the table was full where the machine's is `Done`, or
 /// a wipe's image is that of another device, and then nothing has changed. So are the states behind
@@ -92,17 +110,15 @@ pub(crate) fn beside(
     staged: Option<&[u8]>,
 ) -> Result<(State, Reply), Fail> {
     let stepped = stepped(alloc, state, command, staged)?;
-    let (device, told) = carried(alloc, d, command, staged).ok_or("a command is carried out")?;
-    let held = state_of(alloc, d, &device)?;
+    let (held, told) = held(alloc, d, command, staged)?;
     let next = next_of(rt, alloc, command, state, stepped, &told)?;
-    let (held, wanted) = (spelled(alloc, &held)?, spelled(alloc, &next)?);
     assert!(rt;
-        held.as_slice() == wanted.as_slice(),
+        is_same(alloc, &held, &next)?,
         "the state behind {command:?}"
     );
-    let again = spelled(alloc, &opened(alloc, d)?)?;
+    let again = opened(alloc, d)?;
     assert!(rt;
-        again.as_slice() == wanted.as_slice(),
+        is_same(alloc, &again, &next)?,
         "the state opened behind {command:?}"
     );
     Ok((next, told))

@@ -7,7 +7,7 @@ use vab_bytes::{Bytes, Listing, Name36};
 use vab_device::{Device, Part, PartImage, PhaseKind};
 use vab_disk::{Disk, MemPort};
 use vab_linear::Map;
-use vab_model::{Image, Phase, Plan, PlanEntry, PlanImage, State};
+use vab_model::{Image, Overlay, Phase, Plan, PlanEntry, PlanImage, State};
 
 /// A sector of a disk.
 pub(crate) fn sector(d: &mut MemPort, at: u64) -> Result<[u8; 512], Fail> {
@@ -109,6 +109,31 @@ fn plan(alloc: Global, d: &mut MemPort, device: &Device) -> Result<Plan, Fail> {
     })
 }
 
+// The blocks that a store has exceptions for, in their order.
+fn blocks_over(alloc: Global, image: &PartImage) -> Result<Listing<u64>, Fail> {
+    let mut blocks = Vec::new(alloc);
+    if let PartImage::Written(_, view) = image {
+        for j in 0..view.count() {
+            blocks.push(view.at(j).old_chunk)?;
+        }
+    }
+    Ok(Listing::from_vec(blocks))
+}
+
+// What is written over a partition, as it is read through its store.
+fn overlay(alloc: Global, d: &mut MemPort, part: &Option<Part>) -> Result<Option<Overlay>, Fail> {
+    let Some(part) = part else {
+        return Ok(None);
+    };
+    let store = part.store.as_ref().map(|store| store.len());
+    Ok(Some(Overlay {
+        name: part.name,
+        store: store.unwrap_or(0),
+        blocks: blocks_over(alloc, &part.image)?,
+        bytes: image_bytes(alloc, d, part)?,
+    }))
+}
+
 // How many exceptions the stores of a slot with images have.
 fn left(parts: &Option<Listing<Part>>) -> u64 {
     let mut left = 0u64;
@@ -155,5 +180,6 @@ pub(crate) fn state_of(alloc: Global, d: &mut MemPort, device: &Device) -> Resul
         a: images(alloc, d, &device.a)?,
         b: images(alloc, d, &device.b)?,
         phase: phase(alloc, d, device)?,
+        overlay: overlay(alloc, d, &device.overlay)?,
     })
 }

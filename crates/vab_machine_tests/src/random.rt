@@ -150,6 +150,42 @@ fn command(draws: &mut Draws, state: &State) -> Command<'static> {
     }
 }
 
+// A command of an overlay, or now and then a digest, or a begin over an overlay, which is refused.
+fn overlaying(draws: &mut Draws, state: &State) -> Command<'static> {
+    let current = state.control.current;
+    match (&state.overlay, draws.draw(10)) {
+        (_, 0) => Command::Digest(name(draws, current)),
+        (None, 1) => Command::OverlayWrite(draws.draw(5)),
+        (None, _) => Command::Overlay(name(draws, current), size(draws)),
+        (Some(_), 1) => Command::OverlayDiscard,
+        (Some(_), 2) => begin(draws),
+        (Some(_), _) => Command::OverlayWrite(draws.draw(5)),
+    }
+}
+
+// What a list is of.
+#[derive(Clone, Copy)]
+enum Kinds {
+    Updates,
+    Overlays,
+}
+
+fn next(draws: &mut Draws, state: &State, kinds: Kinds) -> Command<'static> {
+    match kinds {
+        Kinds::Updates => command(draws, state),
+        Kinds::Overlays => overlaying(draws, state),
+    }
+}
+
+// A block of one byte.
+fn one_block(alloc: Global, byte: u8) -> Result<Vec<u8>, Fail> {
+    let mut bytes = Vec::new(alloc);
+    for _i in 0..4096u32 {
+        bytes.push(byte)?;
+    }
+    Ok(bytes)
+}
+
 // Staged bytes of up to five blocks, most of them those that the images are made of.
 fn staged(alloc: Global, draws: &mut Draws) -> Result<Option<Vec<u8>>, Fail> {
     if draws.draw(8) == 0 {
@@ -172,13 +208,17 @@ fn staged(alloc: Global, draws: &mut Draws) -> Result<Option<Vec<u8>>, Fail> {
     Ok(Some(bytes))
 }
 
-// The same, but for a wipe mostly an image of the device's `super`.
+// The same, but for a wipe mostly an image of the device's `super`, and mostly a block for a write
+// over a partition.
 fn staged_for(
     alloc: Global,
     draws: &mut Draws,
     d: &mut MemPort,
     command: &Command,
 ) -> Result<Option<Vec<u8>>, Fail> {
+    if matches!(command, Command::OverlayWrite(_)) && draws.draw(4) > 0 {
+        return Ok(Some(one_block(alloc, (draws.draw(4) % 256) as u8)?));
+    }
     if !matches!(command, Command::UpdateSuper) || draws.draw(4) == 0 {
         return staged(alloc, draws);
     }
@@ -206,6 +246,9 @@ fn kind(command: &Command) -> usize {
         Command::Merge(_) => 14,
         Command::Factory => 15,
         Command::UpdateSuper => 16,
+        Command::Overlay(_, _) => 17,
+        Command::OverlayWrite(_) => 18,
+        Command::OverlayDiscard => 19,
     }
 }
 
@@ -215,39 +258,45 @@ fn play(
     alloc: Global,
     d: MemPort,
     seed: u64,
-    seen: &mut [bool; 17],
+    kinds: Kinds,
+    seen: &mut [bool; 20],
 ) -> Result<(), Fail> {
     let mut d = d;
     let mut draws = Draws(seed);
     let mut state = opened(alloc, &mut d)?;
     for _i in 0..70u32 {
-        let command = command(&mut draws, &state);
+        let command = next(&mut draws, &state, kinds);
         let bytes = staged_for(alloc, &mut draws, &mut d, &command)?;
         let staged = bytes.as_ref().map(|bytes| bytes.as_slice());
-        let (next, told) = beside(rt, alloc, &mut d, &state, &command, staged)?;
+        let (after, told) = beside(rt, alloc, &mut d, &state, &command, staged)?;
         let kind = kind(&command);
-        if kind < 17 && !matches!(told, Reply::Refused(_)) {
+        if kind < 20 && !matches!(told, Reply::Refused(_)) {
             seen[kind] = true;
         }
-        state = next;
+        state = after;
         d = d.next_run(Vec::new(alloc));
     }
     Ok(())
 }
 
 // Plays a list on each disk, and says how many kinds of command were done.
-fn kinds_done(rt: &impl Abort, alloc: Global, lists: [(u64, MemPort); 2]) -> Result<u64, Fail> {
-    let mut seen = [false; 17];
+fn kinds_done(
+    rt: &impl Abort,
+    alloc: Global,
+    kinds: Kinds,
+    lists: [(u64, MemPort); 2],
+) -> Result<u64, Fail> {
+    let mut seen = [false; 20];
     for (seed, d) in lists {
-        play(rt, alloc, d, seed, &mut seen)?;
+        play(rt, alloc, d, seed, kinds, &mut seen)?;
     }
-    let mut kinds = 0u64;
+    let mut count = 0u64;
     for done in seen {
         if done {
-            kinds = kinds.saturating_add(1);
+            count = count.saturating_add(1);
         }
     }
-    Ok(kinds)
+    Ok(count)
 }
 
 #[test]
@@ -255,7 +304,7 @@ fn lists_over_little_space_are_the_machines(rt: HostRuntime) -> Result<(), Fail>
     let alloc = rt.alloc();
     let first = made_of_two(alloc, 16, 28672, 4096)?;
     let second = made_of_two(alloc, 16, 28672, 4096)?;
-    let kinds = kinds_done(&rt, alloc, [(0, first), (3, second)])?;
+    let kinds = kinds_done(&rt, alloc, Kinds::Updates, [(0, first), (3, second)])?;
     assert!(rt; kinds > 11, "{kinds} kinds are done");
     Ok(())
 }
@@ -265,17 +314,27 @@ fn lists_over_small_tables_are_the_machines(rt: HostRuntime) -> Result<(), Fail>
     let alloc = rt.alloc();
     let first = made_of_two(alloc, 24, 0, 1024)?;
     let second = made_of_two(alloc, 24, 0, 1024)?;
-    let kinds = kinds_done(&rt, alloc, [(1, first), (4, second)])?;
+    let kinds = kinds_done(&rt, alloc, Kinds::Updates, [(1, first), (4, second)])?;
     assert!(rt; kinds > 11, "{kinds} kinds are done");
     Ok(())
 }
 
 #[test]
-fn lists_of_every_kind_are_the_machines(rt: HostRuntime) -> Result<(), Fail> {
+fn lists_of_every_kind_of_an_update_are_the_machines(rt: HostRuntime) -> Result<(), Fail> {
     let alloc = rt.alloc();
     let first = made_of_two(alloc, 24, 40960, 4096)?;
     let second = made_of_two(alloc, 24, 40960, 4096)?;
-    let kinds = kinds_done(&rt, alloc, [(0, first), (10, second)])?;
+    let kinds = kinds_done(&rt, alloc, Kinds::Updates, [(0, first), (10, second)])?;
     assert_eq!(rt; kinds, 17);
+    Ok(())
+}
+
+#[test]
+fn lists_over_an_overlay_are_the_machines(rt: HostRuntime) -> Result<(), Fail> {
+    let alloc = rt.alloc();
+    let first = made_of_two(alloc, 16, 28672, 4096)?;
+    let second = made_of_two(alloc, 12, 0, 1024)?;
+    let kinds = kinds_done(&rt, alloc, Kinds::Overlays, [(0, first), (1, second)])?;
+    assert_eq!(rt; kinds, 4);
     Ok(())
 }

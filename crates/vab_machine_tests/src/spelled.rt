@@ -4,7 +4,7 @@ use std::alloc::Global;
 use std::test::*;
 use vab_bootctl::Info;
 use vab_bytes::{Listing, Name36};
-use vab_model::{Image, Phase, PlanEntry, PlanImage, State};
+use vab_model::{Image, Overlay, Phase, PlanEntry, PlanImage, State};
 
 fn number(out: &mut Vec<u8>, n: u64) -> Result<(), Fail> {
     out.extend_from_slice(&n.to_le_bytes())?;
@@ -79,6 +79,19 @@ fn phase(out: &mut Vec<u8>, phase: &Phase) -> Result<(), Fail> {
     Ok(())
 }
 
+fn overlay(out: &mut Vec<u8>, overlay: &Option<Overlay>) -> Result<(), Fail> {
+    let Some(overlay) = overlay else {
+        return number(out, 99);
+    };
+    bytes(out, overlay.name.text())?;
+    number(out, overlay.store)?;
+    number(out, overlay.blocks.len() as u64)?;
+    for block in overlay.blocks.as_slice() {
+        number(out, *block)?;
+    }
+    bytes(out, overlay.bytes.as_slice())
+}
+
 pub(crate) fn spelled(alloc: Global, state: &State) -> Result<Vec<u8>, Fail> {
     let mut out = Vec::new(alloc);
     number(&mut out, state.cap)?;
@@ -92,5 +105,6 @@ pub(crate) fn spelled(alloc: Global, state: &State) -> Result<Vec<u8>, Fail> {
     images(&mut out, &state.a)?;
     images(&mut out, &state.b)?;
     phase(&mut out, &state.phase)?;
+    overlay(&mut out, &state.overlay)?;
     Ok(out)
 }

@@ -6,7 +6,7 @@ use vab_bootctl::{Control, Info};
 use vab_bytes::{Bytes, Listing, Name36};
 use vab_machine::{is_small, step};
 use vab_model::{
-    Command, GroupLimit, Image, Phase, Plan, PlanEntry, PlanImage, Refusal, Reply, State,
+    Command, GroupLimit, Image, Overlay, Phase, Plan, PlanEntry, PlanImage, Refusal, Reply, State,
 };
 use vab_space::Chunk;
 
@@ -68,6 +68,7 @@ fn device(alloc: Global) -> Result<State, Fail> {
         a: Some(Listing::from_vec(images)),
         b: None,
         phase: Phase::Idle,
+        overlay: None,
     })
 }
 
@@ -200,9 +201,57 @@ fn questions_are_answered_and_commands_on_an_update_refused(rt: HostRuntime) -> 
         (Command::BeginMerge, Reply::Refused(Refusal::NotStaged)),
         (Command::Merge(1), Reply::Refused(Refusal::NotMerging)),
         (Command::UpdateSuper, Reply::Refused(Refusal::NothingStaged)),
+        (
+            Command::OverlayWrite(0),
+            Reply::Refused(Refusal::NotOverlaid),
+        ),
+        (
+            Command::OverlayDiscard,
+            Reply::Refused(Refusal::NotOverlaid),
+        ),
     ] {
         let (_, reply) = after(rt.alloc(), &state, &command)?;
         assert!(rt; reply == want, "{command:?}");
     }
+    Ok(())
+}
+
+fn many(alloc: Global, count: u32, byte: u8) -> Result<Vec<u8>, Fail> {
+    let mut bytes = Vec::new(alloc);
+    for _i in 0..count {
+        bytes.push(byte)?;
+    }
+    Ok(bytes)
+}
+
+// The state with bytes of this one written over block 1.
+fn written_over(alloc: Global, state: &State, byte: u8) -> Result<State, Fail> {
+    let block = many(alloc, 4096, byte)?;
+    if !is_small(state) {
+        return Err("a state is small".into());
+    }
+    match step(alloc, state, &Command::OverlayWrite(1), Some(&block))? {
+        (next, Reply::Done) => Ok(next),
+        _ => Err("a block is written".into()),
+    }
+}
+
+#[test]
+fn a_block_reads_as_it_was_written_last(rt: HostRuntime) -> Result<(), Fail> {
+    let alloc = rt.alloc();
+    let mut state = device(alloc)?;
+    state.overlay = Some(Overlay {
+        name: name(b"system")?,
+        store: 4,
+        blocks: Listing::from_vec(Vec::new(alloc)),
+        bytes: Bytes::from_vec(many(alloc, 8192, 1)?),
+    });
+    let once = written_over(alloc, &state, 7)?;
+    let twice = written_over(alloc, &once, 9)?;
+    let overlay = twice.overlay.as_ref().ok_or("an overlay")?;
+    let mut want = many(alloc, 4096, 1)?;
+    want.extend_from_slice(&many(alloc, 4096, 9)?)?;
+    assert!(rt; overlay.bytes.as_slice() == want.as_slice());
+    assert!(rt; overlay.blocks.as_slice() == [1].as_slice());
     Ok(())
 }

@@ -23,6 +23,7 @@ enum Want {
     Told(Reply),
     Refused(Refusal),
     Incomplete(&'static [u8]),
+    Bytes(&'static [u8]),
 }
 
 type Case = (Command<'static>, Staged, Want);
@@ -306,6 +307,100 @@ const FACTORY: [Case; 28] = [
     (Command::Begin, NOTHING, DONE),
 ];
 
+const NOT_IDLE: Want = Want::Refused(Refusal::NotIdle);
+
+const BLOCK: Staged = Staged::Zeros(4096);
+
+// Of a device of one image of 100 blocks, of 256, which is written over.
+const OVERLAY: [Case; 30] = [
+    (
+        Command::OverlayWrite(5),
+        BLOCK,
+        Want::Refused(Refusal::NotOverlaid),
+    ),
+    (
+        Command::OverlayDiscard,
+        NOTHING,
+        Want::Refused(Refusal::NotOverlaid),
+    ),
+    (
+        Command::Overlay(b"system_b", 0),
+        NOTHING,
+        Want::Refused(Refusal::BadName),
+    ),
+    (
+        Command::Overlay(b"x_a", 4096),
+        NOTHING,
+        Want::Refused(Refusal::BadSize),
+    ),
+    (
+        Command::Overlay(b"x_a", 1099511627777),
+        NOTHING,
+        Want::Refused(Refusal::BadSize),
+    ),
+    (
+        Command::Overlay(b"x_a", 0),
+        NOTHING,
+        Want::Refused(Refusal::Unknown),
+    ),
+    (
+        Command::Overlay(b"system_a", 638977),
+        NOTHING,
+        Want::Refused(Refusal::NoRoom(257, 256)),
+    ),
+    (Command::Overlay(b"system_a", 16384), NOTHING, DONE),
+    (Command::Overlay(b"system_a", 0), NOTHING, NOT_IDLE),
+    (Command::Begin, NOTHING, NOT_IDLE),
+    (Command::Factory, NOTHING, NOT_IDLE),
+    (Command::UpdateSuper, NOTHING, NOT_IDLE),
+    (
+        Command::OverlayWrite(100),
+        NOTHING,
+        Want::Refused(Refusal::NothingStaged),
+    ),
+    (
+        Command::OverlayWrite(100),
+        Staged::Zeros(4095),
+        Want::Refused(Refusal::BadLength(4095)),
+    ),
+    (
+        Command::OverlayWrite(100),
+        Staged::Zeros(4097),
+        Want::Refused(Refusal::BadLength(4097)),
+    ),
+    (
+        Command::OverlayWrite(100),
+        BLOCK,
+        Want::Refused(Refusal::BadBlock(100, 100)),
+    ),
+    (Command::OverlayWrite(5), BLOCK, DONE),
+    (Command::OverlayWrite(5), BLOCK, DONE),
+    (Command::OverlayWrite(9), BLOCK, DONE),
+    (
+        Command::OverlayWrite(5),
+        BLOCK,
+        Want::Refused(Refusal::StoreFull(5, 4)),
+    ),
+    (
+        Command::Print(b"system_a"),
+        NOTHING,
+        Want::Bytes(b"system_a"),
+    ),
+    (Command::OverlayDiscard, NOTHING, DONE),
+    (
+        Command::OverlayDiscard,
+        NOTHING,
+        Want::Refused(Refusal::NotOverlaid),
+    ),
+    (Command::Overlay(b"system_a", 0), NOTHING, DONE),
+    (Command::OverlayWrite(99), BLOCK, DONE),
+    (Command::Boot, NOTHING, Want::Told(Reply::Booted(0))),
+    (Command::OverlayWrite(0), BLOCK, DONE),
+    (Command::OverlayDiscard, NOTHING, DONE),
+    (Command::Begin, NOTHING, DONE),
+    (Command::Overlay(b"system_a", 0), NOTHING, NOT_IDLE),
+];
+
 fn bytes_of(alloc: Global, staged: &Staged) -> Result<Option<Vec<u8>>, Fail> {
     let mut bytes = Vec::new(alloc);
     match staged {
@@ -329,6 +424,10 @@ fn is_told(told: &Reply, want: &Want) -> bool {
         },
         Want::Incomplete(name) => match told {
             Reply::Refused(Refusal::Incomplete(other)) => other.text() == *name,
+            _ => false,
+        },
+        Want::Bytes(name) => match told {
+            Reply::Bytes(other) => other.text() == *name,
             _ => false,
         },
     }
@@ -383,4 +482,11 @@ fn an_update_is_booted_and_merged(rt: HostRuntime) -> Result<(), Fail> {
 fn a_factory_install_is_booted_and_merged(rt: HostRuntime) -> Result<(), Fail> {
     let alloc = rt.alloc();
     play(&rt, alloc, made(alloc, 20, 0, 4096, b"x", 3)?, &FACTORY)
+}
+
+#[test]
+fn a_partition_is_written_over(rt: HostRuntime) -> Result<(), Fail> {
+    let alloc = rt.alloc();
+    let d = made(alloc, 256, 0, 65536, b"system", 100)?;
+    play(&rt, alloc, d, &OVERLAY)
 }

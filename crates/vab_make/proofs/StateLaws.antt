@@ -180,7 +180,7 @@ module _
   reads mark =
       reads_idle size image idle_one
       (le-leb 4120 size (omega (arith, is.room.enough))) (mark_is image mark) refl
-      made_control (made_geometry max) (table_of made)
+      made_control (made_geometry max) (table_of made) refl
       (control_seen_in true false image made_control has.control)
       (geometry_is max size image is.most is.room.enough has.places.primary)
       table_is (parts_read mark) refl
@@ -197,6 +197,7 @@ module _
       a = Some (map (image_on image) (parts_of 0 l));
       b = None;
       phase = phases.Idle;
+      overlay = None;
     };
     places = record { geometry = made_geometry max; a = Some (plain 0 l); b = None };
   }

@@ -100,6 +100,7 @@ made_state set limit size = record {
   a = Some (map made_image set);
   b = None;
   phase = Idle;
+  overlay = None;
 }
 
 -- the device that is made

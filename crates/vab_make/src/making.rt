@@ -37,6 +37,7 @@ fn mark_sector() -> [u8; 512]
         phase: MarkPhase::Idle,
         slot: 0,
         apart: false,
+        overlaid: false,
     })
 }
 

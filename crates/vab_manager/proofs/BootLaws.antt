@@ -29,7 +29,7 @@ kept_device d size c is fits current = record {
   control = fits;
   phase = is.phase;
   slot = is.slot;
-  apart = is.apart;
+  flags = is.flags;
   current = current;
   has_a = is.has_a;
   has_b = is.has_b;
@@ -43,6 +43,8 @@ kept_device d size c is fits current = record {
   planned = is.planned;
   plan = is.plan;
   update = is.update;
+  overlaid = is.overlaid;
+  overlay = is.overlay;
 }
 
 -- ---- what the rules ask of one slot

@@ -1,8 +1,8 @@
 //! A block of an image.
 
-ghost use Rattle.std.specs.Prelude.{◌≡◌, ◌≤◌, ◌<◌, ◌^◌, length, slice_index, IsTrue, IfOk, IfErr};
-ghost use Rattle.std.specs.Prelude.{OnOk};
-ghost use Rattle.std.specs.Option.{option_copied, option_and_then};
+ghost use Rattle.std.specs.Prelude.{◌≡◌, ℕ, ◌≤◌, ◌<◌, ◌^◌, length, slice_index, IsTrue, IfOk};
+ghost use Rattle.std.specs.Prelude.{IfErr, OnOk};
+ghost use Rattle.std.specs.Option.{option_copied};
 ghost use Rattle.vab_disk.specs.Calls.{FailsWithDisk, OnlyReads};
 ghost use Rattle.vab_disk.specs.Disk.{Image};
 ghost use Rattle.vab_gate.specs.Gate.{sectors_at};
@@ -10,12 +10,11 @@ ghost use Rattle.vab_names.specs.Names.{is_full, base_of};
 ghost use Rattle.vab_model.specs.declared.state.Image.{Image as ImageOfSlot};
 ghost use Rattle.vab_model.specs.Effects.{found_of, Image_is, Refused_by};
 ghost use Rattle.vab_device.specs.declared.device.Part.{Part};
-ghost use Rattle.vab_device.specs.Kept.{IsDevice, parts_at};
+ghost use Rattle.vab_device.specs.Kept.{IsDevice};
 ghost use Rattle.vab_device.specs.Mounted.{bytes_at, sectors_read, state_on};
-ghost use Rattle.vab_manager.specs.Found.{part_named};
-ghost use Rattle.vab_manager.specs.Blocks.{slot_named, KeepsPart, HasBlock, IsBlockOf};
+ghost use Rattle.vab_manager.specs.Blocks.{slot_named, part_read, KeepsPart, HasBlock, IsBlockOf};
 
-use crate::images::{find, part_named};
+use crate::images::{as_read, find, part_named};
 use crate::reading::read_part;
 use vab_device::{Device, Part};
 use vab_disk::Disk;
@@ -30,14 +29,15 @@ fn slot_named(name: &[u8]) -> usize
     if is_full(name, 0) { 0 } else { 1 }
 }
 
-/// The partition that is kept under a base name of a slot.
+/// The partition that is kept under a base name of a slot, as it is read: with its store, where it
+/// is overlaid.
 pub fn kept_part<'a>(device: &'a Device, slot: usize, name: &[u8]) -> Option<&'a Part>
     requires { slot < 2 }
-    ensures { option_copied result
-        ≡ option_and_then (part_named name.now) (parts_at device.now slot) }
+    ensures { option_copied result ≡ part_read device.now slot name.now }
 {
-    match device.images(slot) {
-        Some(parts) => part_named(parts, name),
+    let parts = device.images(slot)?;
+    match part_named(parts, name) {
+        Some(part) => Some(as_read(device, part)),
         None => None,
     }
 }
@@ -45,6 +45,7 @@ pub fn kept_part<'a>(device: &'a Device, slot: usize, name: &[u8]) -> Option<&'a
 /// Where the image of a whole name stands: its slot, and how many blocks of 4096 bytes it has; or
 /// why there is none.
 pub fn locate(device: &Device, name: &[u8]) -> Result<(usize, u64), Refusal>
+    requires kept { (size : ℕ) × IsDevice device.now size }
     ensures part { IfOk result
         (λ r. (r.0 < 2)
         × (2 ≤ length name.now)

@@ -10,7 +10,7 @@ ghost use Rattle.vab_model.specs.Commands.{Print, Digest as DigestOf};
 ghost use Rattle.vab_model.specs.Effects.{answers};
 ghost use Rattle.vab_device.specs.Kept.{IsDevice, IsPart};
 ghost use Rattle.vab_device.specs.Mounted.{bytes_at, sectors_read, mounted_on, effect_in};
-ghost use Rattle.vab_manager.specs.Found.{part_named, part_in, found_part};
+ghost use Rattle.vab_manager.specs.Found.{part_named, as_read, part_in, part_under, found_part};
 
 use crate::reading::read_part;
 use sha2::{Digest, Sha256};
@@ -49,11 +49,23 @@ fn part_in<'a>(parts: &'a Option<Listing<Part>>, name: &[u8]) -> Result<&'a Part
     }
 }
 
-/// The partition of a name with a slot's suffix, or why there is none.
-pub fn find<'a>(device: &'a Device, name: &[u8]) -> Result<&'a Part, Refusal>
+/// A partition as it is read: the overlaid one, where it is that.
+pub fn as_read<'a>(device: &'a Device, part: &'a Part) -> &'a Part
+    ensures { result.now ≡ as_read (device.now).overlay part.now }
+{
+    if let Some(overlay) = &device.overlay {
+        if overlay.name == part.name {
+            return overlay;
+        }
+    }
+    part
+}
+
+// The partition of a name with a slot's suffix.
+fn part_under<'a>(device: &'a Device, name: &[u8]) -> Result<&'a Part, Refusal>
     ensures { MatchResult result
-        (λ p. found_part device.now name.now ≡ Ok p.now)
-        (λ f. found_part device.now name.now ≡ Err f) }
+        (λ p. part_under device.now name.now ≡ Ok p.now)
+        (λ f. part_under device.now name.now ≡ Err f) }
 {
     if is_full(name, 0) {
         part_in(&device.a, name)
@@ -61,6 +73,18 @@ pub fn find<'a>(device: &'a Device, name: &[u8]) -> Result<&'a Part, Refusal>
         part_in(&device.b, name)
     } else {
         Err(Refusal::BadName)
+    }
+}
+
+/// The partition of a name with a slot's suffix as it is read, or why there is none.
+pub fn find<'a>(device: &'a Device, name: &[u8]) -> Result<&'a Part, Refusal>
+    ensures { MatchResult result
+        (λ p. found_part device.now name.now ≡ Ok p.now)
+        (λ f. found_part device.now name.now ≡ Err f) }
+{
+    match part_under(device, name) {
+        Ok(part) => Ok(as_read(device, part)),
+        Err(refusal) => Err(refusal),
     }
 }
 

@@ -3,7 +3,7 @@ use Rattle.std.proofs.Common.{◌≡◌, ℕ, zero, suc, ◌^◌, ◌<◌, ◌&&
 use Rattle.std.proofs.Common.{eqb, ltb, not, List}
 use Rattle.std.proofs.Common.{[], ◌∷◌, length, take, get_or, Option, Some, None, Result, Ok, Err}
 use Rattle.std.proofs.Common.{refl, sym, ap, subst, ◌∙◌, arith, lit≤}
-use Rattle.std.specs.Prelude.{option_map, ok_or, IsTrue}
+use Rattle.std.specs.Prelude.{ok_or, IsTrue}
 use Rattle.std.proofs.lemmas.Bool.{ltb-true, lt-ltb, and_parts, and_from, cond-true, eqb-true}
 use Rattle.std.proofs.lemmas.List.{drop-drop}
 use Rattle.vab_bytes.specs.Number.{IsBytes, field, put_at}
@@ -23,52 +23,67 @@ use Rattle.vab_marks.proofs.SectorLaws.{field-add, field-one, length-sealed, fie
 use Rattle.vab_marks.proofs.SectorLaws.{get_or-sealed, unless_ok, front_sum, head_is, head_again}
 use Rattle.vab_marks.proofs.SectorLaws.{zero_head}
 use Rattle.vab_marks.specs.Version.{version_byte, version_of, version_in, is_version}
-use Rattle.vab_marks.specs.Mark.{FitsMark, phase_byte, mark_magic, mark_front, mark_under}
-use Rattle.vab_marks.specs.Mark.{mark_spelling, may_stand_apart}
-use Rattle.vab_marks.specs.Mark.{phase_of, with_phase, mark_fields, mark_of}
+use Rattle.vab_marks.specs.Mark.{FitsMark, FlagsFit, phase_byte, phase_spelled, mark_magic}
+use Rattle.vab_marks.specs.Mark.{mark_front, mark_under, mark_spelling, may_stand_apart, is_idle}
+use Rattle.vab_marks.specs.Mark.{mark_by, mark_fields, mark_of}
 
 -- ---- phases
 
-some_is : (p q : MarkPhase × Bool)
-    → (let one : Option (MarkPhase × Bool) = Some p in one ≡ Some q)
-    → p ≡ q
-some_is p q h = cc
+-- the mark of its own byte is the mark
+phase_again : (m : UpdateMark) → FlagsFit m → mark_by m.slot (phase_spelled m) ≡ Some m
+phase_again m fits = by m.phase m.apart m.overlaid fits.0 fits.1
+  where
+    by : (p : MarkPhase) (a o : Bool)
+        → IsTrue (may_stand_apart p || not a)
+        → IsTrue (is_idle p || not o)
+        → mark_by m.slot (phase_byte p a o)
+        ≡ Some (record { phase = p; slot = m.slot; apart = a; overlaid = o })
+    by Idle false false h k = refl
+    by Idle false true h k = refl
+    by Idle true o h k = absurd cc
+    by Installing false false h k = refl
+    by Installing true false h k = refl
+    by Installing a true h k = absurd cc
+    by Staged false false h k = refl
+    by Staged true false h k = refl
+    by Staged a true h k = absurd cc
+    by Merging false false h k = refl
+    by Merging true o h k = absurd cc
+    by Merging false true h k = absurd cc
+    by Completed false false h k = refl
+    by Completed true o h k = absurd cc
+    by Completed false true h k = absurd cc
 
-phase_again : (p : MarkPhase) (apart : Bool)
-    → IsTrue (may_stand_apart p || not apart)
-    → phase_of (phase_byte p apart) ≡ Some (p, apart)
-phase_again Idle false h = refl
-phase_again Idle true h = absurd cc
-phase_again Installing false h = refl
-phase_again Installing true h = refl
-phase_again Staged false h = refl
-phase_again Staged true h = refl
-phase_again Merging false h = refl
-phase_again Merging true h = absurd cc
-phase_again Completed false h = refl
-phase_again Completed true h = absurd cc
+-- the byte of a mark that is read, its slot, and that it has a spelling
+pub record IsPhaseOf (slot b : ℕ) (m : UpdateMark) : Type 0 where
+  pub byte : b ≡ phase_spelled m
+  pub slot_is : m.slot ≡ slot
+  pub flags : FlagsFit m
 
--- the byte of a phase that is read, and that it has a spelling
-pub record IsPhaseOf (b : ℕ) (p : MarkPhase × Bool) : Type 0 where
-  pub byte : b ≡ phase_byte p.0 p.1
-  pub apart : IsTrue (may_stand_apart p.0 || not p.1)
+some_is : (slot b : ℕ) (k m : UpdateMark)
+    → IsPhaseOf slot b k
+    → (let one : Option UpdateMark = Some k in one ≡ Some m)
+    → IsPhaseOf slot b m
+some_is slot b k m is h = subst (IsPhaseOf slot b) (let e : k ≡ m = cc in e) is
 
-phase_is : (b : ℕ) (p : MarkPhase × Bool) → phase_of b ≡ Some p → IsPhaseOf b p
-phase_is zero p h =
-    subst (IsPhaseOf 0) (some_is (Idle, false) p h) (record { byte = refl; apart = refl })
-phase_is (suc zero) p h =
-    subst (IsPhaseOf 1) (some_is (Installing, false) p h) (record { byte = refl; apart = refl })
-phase_is (suc (suc zero)) p h =
-    subst (IsPhaseOf 2) (some_is (Staged, false) p h) (record { byte = refl; apart = refl })
-phase_is (suc (suc (suc zero))) p h =
-    subst (IsPhaseOf 3) (some_is (Merging, false) p h) (record { byte = refl; apart = refl })
-phase_is (suc (suc (suc (suc zero)))) p h =
-    subst (IsPhaseOf 4) (some_is (Completed, false) p h) (record { byte = refl; apart = refl })
-phase_is (suc (suc (suc (suc (suc zero))))) p h =
-    subst (IsPhaseOf 5) (some_is (Installing, true) p h) (record { byte = refl; apart = refl })
-phase_is (suc (suc (suc (suc (suc (suc zero)))))) p h =
-    subst (IsPhaseOf 6) (some_is (Staged, true) p h) (record { byte = refl; apart = refl })
-phase_is (suc (suc (suc (suc (suc (suc (suc n))))))) p h = absurd cc
+phase_is : (slot b : ℕ) (m : UpdateMark) → mark_by slot b ≡ Some m → IsPhaseOf slot b m
+phase_is slot zero m h =
+    some_is slot 0 _ m (record { byte = refl; slot_is = refl; flags = (refl, refl) }) h
+phase_is slot (suc zero) m h =
+    some_is slot 1 _ m (record { byte = refl; slot_is = refl; flags = (refl, refl) }) h
+phase_is slot (suc (suc zero)) m h =
+    some_is slot 2 _ m (record { byte = refl; slot_is = refl; flags = (refl, refl) }) h
+phase_is slot (suc (suc (suc zero))) m h =
+    some_is slot 3 _ m (record { byte = refl; slot_is = refl; flags = (refl, refl) }) h
+phase_is slot (suc (suc (suc (suc zero)))) m h =
+    some_is slot 4 _ m (record { byte = refl; slot_is = refl; flags = (refl, refl) }) h
+phase_is slot (suc (suc (suc (suc (suc zero))))) m h =
+    some_is slot 5 _ m (record { byte = refl; slot_is = refl; flags = (refl, refl) }) h
+phase_is slot (suc (suc (suc (suc (suc (suc zero)))))) m h =
+    some_is slot 6 _ m (record { byte = refl; slot_is = refl; flags = (refl, refl) }) h
+phase_is slot (suc (suc (suc (suc (suc (suc (suc zero))))))) m h =
+    some_is slot 7 _ m (record { byte = refl; slot_is = refl; flags = (refl, refl) }) h
+phase_is slot (suc (suc (suc (suc (suc (suc (suc (suc n)))))))) m h = absurd cc
 
 -- ---- versions
 
@@ -96,24 +111,24 @@ front_is : (bytes : List ℕ) (v : MarkVersion) (m : UpdateMark)
     → length bytes ≡ 512
     → take 4 bytes ≡ mark_magic
     → get_or bytes 4 0 ≡ version_byte v
-    → get_or bytes 5 0 ≡ phase_byte m.phase m.apart
+    → get_or bytes 5 0 ≡ phase_spelled m
     → get_or bytes 6 0 ≡ m.slot
     → field bytes 7 501 ≡ zeros 501
     → take 508 bytes ≡ mark_front v m
 front_is bytes v m len magic version phase slot rest =
     let e4 : field bytes 4 1 ≡ version_byte v ∷ [] = field-one bytes 4 (omega (arith, len))
     ∙ ap (λ (k : ℕ). k ∷ []) version in
-    let e5 : field bytes 5 1 ≡ phase_byte m.phase m.apart ∷ [] =
+    let e5 : field bytes 5 1 ≡ phase_spelled m ∷ [] =
     field-one bytes 5 (omega (arith, len))
     ∙ ap (λ (k : ℕ). k ∷ []) phase in
     let e6 : field bytes 6 1 ≡ m.slot ∷ [] = field-one bytes 6 (omega (arith, len))
     ∙ ap (λ (k : ℕ). k ∷ []) slot in
     let from6 : field bytes 6 502 ≡ m.slot ∷ zeros 501 = field-add bytes 6 1 501
     ∙ rw (e6, rest) refl in
-    let from5 : field bytes 5 503 ≡ phase_byte m.phase m.apart ∷ m.slot ∷ zeros 501 =
+    let from5 : field bytes 5 503 ≡ phase_spelled m ∷ m.slot ∷ zeros 501 =
     field-add bytes 5 1 502 ∙ rw (e5, from6) refl in
     let from4 : field bytes 4 504
-    ≡ version_byte v ∷ phase_byte m.phase m.apart ∷ m.slot ∷ zeros 501 =
+    ≡ version_byte v ∷ phase_spelled m ∷ m.slot ∷ zeros 501 =
     field-add bytes 4 1 503 ∙ rw (e4, from5) refl in
     field-add bytes 0 4 504 ∙ rw (magic, from4) refl
 
@@ -122,11 +137,9 @@ length-front v m = omega (arith, length-zeros 501)
 
 -- ---- reading
 
-with_phase_ok : (slot : ℕ) (o : Option (MarkPhase × Bool)) (m : UpdateMark)
-    → ok_or (option_map (with_phase slot) o) BadField ≡ Ok m
-    → (p : MarkPhase × Bool) × (o ≡ Some p) × (with_phase slot p ≡ m)
-with_phase_ok slot None m h = absurd cc
-with_phase_ok slot (Some p) m h = (p, refl, cc)
+mark_by_ok : (o : Option UpdateMark) (m : UpdateMark) → ok_or o BadField ≡ Ok m → o ≡ Some m
+mark_by_ok None m h = absurd cc
+mark_by_ok (Some k) m h = cc
 
 fields_ok : (t : Bool) (r : Result UpdateMark MarkFault) (m : UpdateMark)
     → cond t r (Err BadField) ≡ Ok m
@@ -148,17 +161,17 @@ found_mark bytes m len are h =
     let head = head_is mark_magic known bytes len are u.0 in
     let f = fields_ok (ltb (get_or bytes 6 0) 2 && are_zeros (field bytes 7 501)) _ m u.1 in
     let tests = and_parts (ltb (get_or bytes 6 0) 2) (are_zeros (field bytes 7 501)) f.0 in
-    let p = with_phase_ok (get_or bytes 6 0) (phase_of (get_or bytes 5 0)) m f.1 in
-    let read : UpdateMark = with_phase (get_or bytes 6 0) p.0 in
+    let p = phase_is (get_or bytes 6 0) (get_or bytes 5 0) m (mark_by_ok _ m f.1) in
     let rest : field bytes 7 501 ≡ zeros 501 =
     zeros_from (field bytes 7 501) 501 (length-field bytes 7 501 (omega (arith, len)))
     tests.1 in
-    let front : take 508 bytes ≡ mark_front v read =
-    front_is bytes v read len head.first (version_is (get_or bytes 4 0) head.version)
-    (phase_is (get_or bytes 5 0) p.0 p.1).byte refl rest in
-    let P : UpdateMark → Type 0 = λ k. FitsMark k × (bytes ≡ sealed (mark_front v k)) in
-    subst P p.2 (
-      record { slot = ltb-true _ _ tests.0; apart = (phase_is (get_or bytes 5 0) p.0 p.1).apart },
+    let front : take 508 bytes ≡ mark_front v m =
+    front_is bytes v m len head.first (version_is (get_or bytes 4 0) head.version)
+    p.byte (sym p.slot_is) rest in (
+      record {
+        slot = subst (λ (n : ℕ). n < 2) (sym p.slot_is) (ltb-true _ _ tests.0);
+        flags = p.flags;
+      },
       head.whole ∙ ap sealed front,
     )
 
@@ -176,7 +189,7 @@ only_mark v m sum fits =
     ap is_version (get_or-sealed front 4 (omega (arith, len))) ∙ byte_again v in
     let head : head_fault mark_magic (is_version (get_or whole 4 0)) whole ≡ None =
     head_again mark_magic (is_version (get_or whole 4 0)) front len sum refl version in
-    let phase : get_or whole 5 0 ≡ phase_byte m.phase m.apart =
+    let phase : get_or whole 5 0 ≡ phase_spelled m =
     get_or-sealed front 5 (omega (arith, len)) in
     let slot : get_or whole 6 0 ≡ m.slot = get_or-sealed front 6 (omega (arith, len)) in
     let rest : field whole 7 501 ≡ zeros 501 = field-sealed front 7 501 (omega (arith, len))
@@ -185,12 +198,11 @@ only_mark v m sum fits =
     let clean : are_zeros (field whole 7 501) ≡ true = ap are_zeros rest ∙ are_zeros-zeros 501 in
     let of_head : Option MarkFault → Result UpdateMark MarkFault = λ o.
     unless o (mark_fields whole) in
-    let of_phase : Option (MarkPhase × Bool) → Result UpdateMark MarkFault = λ o.
-    ok_or (option_map (with_phase (get_or whole 6 0)) o) BadField in
-    let of_slot : ℕ → Result UpdateMark MarkFault = λ k. Ok (with_phase k (m.phase, m.apart)) in
+    let of_mark : Option UpdateMark → Result UpdateMark MarkFault = λ o. ok_or o BadField in
+    let read : mark_by (get_or whole 6 0) (get_or whole 5 0) ≡ Some m =
+    rw (slot, phase) (phase_again m fits.flags) in
     ap of_head head ∙ cond-true _ _ (Err BadField) (and_from _ _ below clean)
-    ∙ ap of_phase (ap phase_of phase ∙ phase_again m.phase m.apart fits.apart)
-    ∙ ap of_slot slot
+    ∙ ap of_mark read
 
 pub read_mark : (bytes : List ℕ) (v : MarkVersion) (m : UpdateMark)
     → IsBytes bytes
@@ -213,12 +225,12 @@ version_spelled v m =
 -- the sector before its sum
 abbrev pub mark_drawn : UpdateMark → List ℕ
 mark_drawn m =
-    put_at (put_at (zeros 512) 0 mark_magic) 4 (2 ∷ phase_byte m.phase m.apart ∷ m.slot ∷ [])
+    put_at (put_at (zeros 512) 0 mark_magic) 4 (2 ∷ phase_spelled m ∷ m.slot ∷ [])
 
 pub drawn_mark : (m : UpdateMark) → take 508 (mark_drawn m) ≡ mark_front Two m
 drawn_mark m =
     let head : List ℕ → List ℕ = λ t.
-    86 ∷ 65 ∷ 66 ∷ 85 ∷ 2 ∷ phase_byte m.phase m.apart ∷ m.slot ∷ t in
+    86 ∷ 65 ∷ 66 ∷ 85 ∷ 2 ∷ phase_spelled m ∷ m.slot ∷ t in
     ap (λ (t : List ℕ). head (take 501 t)) (drop-drop 3 4 (zeros 512))
     ∙ ap head (field-zeros 512 7 501 (lit≤ tt))
 

@@ -3,9 +3,9 @@
 ghost use Rattle.std.specs.Prelude.{◌≡◌, IfOk, Ok};
 ghost use Rattle.vab_marks.specs.declared.mark.UpdateMark.{UpdateMark};
 ghost use Rattle.vab_marks.specs.declared.version.MarkVersion.{MarkVersion};
-ghost use Rattle.vab_marks.specs.Mark.{FitsMark, phase_byte, phase_of, mark_under, mark_of};
-ghost use Rattle.vab_marks.specs.Mark.{is_idle};
-ghost use Rattle.vab_marks.specs.Mark.{mark_spelling, may_stand_apart, rephased, resloted, begun};
+ghost use Rattle.vab_marks.specs.Mark.{FitsMark, phase_spelled, mark_at, mark_by, mark_under};
+ghost use Rattle.vab_marks.specs.Mark.{is_idle, mark_of, mark_spelling, may_stand_apart};
+ghost use Rattle.vab_marks.specs.Mark.{rephased, resloted, begun, overlaid_by};
 ghost use Rattle.vab_marks.specs.Version.{version_in};
 
 use crate::sector::{MarkFault, are_zeros, blank, head_fault, put, seal};
@@ -37,6 +37,8 @@ pub struct UpdateMark {
     pub slot: usize,
     /// The target stands apart, in Installing and Staged alone: no block of the source is its own.
     pub apart: bool,
+    /// The slot is overlaid, in Idle alone: a store stands over one of its partitions.
+    pub overlaid: bool,
 }
 
 impl MarkPhase {
@@ -45,34 +47,6 @@ impl MarkPhase {
         ensures { result ≡ is_idle self }
     {
         matches!(self, MarkPhase::Idle)
-    }
-
-    // A phase, and whether the target stands apart.
-    fn from_byte(byte: u8) -> Option<(MarkPhase, bool)>
-        ensures { result ≡ phase_of byte }
-    {
-        match byte {
-            0 => Some((MarkPhase::Idle, false)),
-            1 => Some((MarkPhase::Installing, false)),
-            2 => Some((MarkPhase::Staged, false)),
-            3 => Some((MarkPhase::Merging, false)),
-            4 => Some((MarkPhase::Completed, false)),
-            5 => Some((MarkPhase::Installing, true)),
-            6 => Some((MarkPhase::Staged, true)),
-            _ => None,
-        }
-    }
-
-    fn to_byte(self, apart: bool) -> u8
-        ensures { result ≡ phase_byte self apart }
-    {
-        match self {
-            MarkPhase::Idle => 0,
-            MarkPhase::Installing => { if apart { 5 } else { 1 } }
-            MarkPhase::Staged => { if apart { 6 } else { 2 } }
-            MarkPhase::Merging => 3,
-            MarkPhase::Completed => 4,
-        }
     }
 
     // A target may stand apart in it.
@@ -84,7 +58,53 @@ impl MarkPhase {
 }
 
 impl UpdateMark {
-    /// The same mark with another phase; where no target stands apart in that, none does.
+    // With no flag.
+    fn at(phase: MarkPhase, slot: usize) -> UpdateMark
+        ensures { result ≡ mark_at phase slot }
+    {
+        UpdateMark {
+            phase,
+            slot,
+            apart: false,
+            overlaid: false,
+        }
+    }
+
+    // The mark of a slot whose phase has this byte.
+    fn from_byte(slot: usize, byte: u8) -> Option<UpdateMark>
+        ensures { result ≡ mark_by slot byte }
+    {
+        match byte {
+            0 => Some(UpdateMark::at(MarkPhase::Idle, slot)),
+            1 => Some(UpdateMark::at(MarkPhase::Installing, slot)),
+            2 => Some(UpdateMark::at(MarkPhase::Staged, slot)),
+            3 => Some(UpdateMark::at(MarkPhase::Merging, slot)),
+            4 => Some(UpdateMark::at(MarkPhase::Completed, slot)),
+            5 => Some(UpdateMark::at(MarkPhase::Idle, slot).begun(true)),
+            6 => Some(UpdateMark {
+                apart: true,
+                ..UpdateMark::at(MarkPhase::Staged, slot)
+            }),
+            7 => Some(UpdateMark::at(MarkPhase::Idle, slot).with_overlay(true)),
+            _ => None,
+        }
+    }
+
+    // The byte of its phase.
+    fn to_byte(self) -> u8
+        ensures { result ≡ phase_spelled self }
+    {
+        match self.phase {
+            MarkPhase::Idle => { if self.overlaid { 7 } else { 0 } }
+            MarkPhase::Installing => { if self.apart { 5 } else { 1 } }
+            MarkPhase::Staged => { if self.apart { 6 } else { 2 } }
+            MarkPhase::Merging => 3,
+            MarkPhase::Completed => 4,
+        }
+    }
+
+    /// The same mark with another phase, and no overlay; where no target stands apart in that, none
+    /// does.
     pub fn with_phase(self, phase: MarkPhase) -> UpdateMark
         ensures { result ≡ rephased phase self }
     {
@@ -92,6 +112,7 @@ impl UpdateMark {
         UpdateMark {
             phase,
             apart,
+            overlaid: false,
             ..self
         }
     }
@@ -103,6 +124,19 @@ impl UpdateMark {
         UpdateMark {
             phase: MarkPhase::Installing,
             apart,
+            overlaid: false,
+            ..self
+        }
+    }
+
+    /// The mark of the same slot, where there is no update, and an overlay or none.
+    pub fn with_overlay(self, overlaid: bool) -> UpdateMark
+        ensures { result ≡ overlaid_by overlaid self }
+    {
+        UpdateMark {
+            phase: MarkPhase::Idle,
+            apart: false,
+            overlaid,
             ..self
         }
     }
@@ -125,12 +159,7 @@ fn mark_in(bytes: &[u8; 512]) -> Result<UpdateMark, MarkFault>
     if bytes[6] > 1 || !are_zeros(&bytes[7..508]) {
         return Err(MarkFault::BadField);
     }
-    let (phase, apart) = MarkPhase::from_byte(bytes[5]).ok_or(MarkFault::BadField)?;
-    Ok(UpdateMark {
-        phase,
-        slot: bytes[6] as usize,
-        apart,
-    })
+    UpdateMark::from_byte(bytes[6] as usize, bytes[5]).ok_or(MarkFault::BadField)
 }
 
 /// The mark of this sector, under either version, or the first fault.
@@ -162,11 +191,7 @@ pub fn encode_mark(mark: &UpdateMark) -> [u8; 512]
     put(
         &mut bytes,
         4,
-        &[
-            MarkVersion::Two.to_byte(),
-            mark.phase.to_byte(mark.apart),
-            mark.slot as u8,
-        ],
+        &[MarkVersion::Two.to_byte(), mark.to_byte(), mark.slot as u8],
     );
     seal(&mut bytes);
     bytes

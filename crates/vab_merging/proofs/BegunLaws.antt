@@ -232,7 +232,7 @@ module _
   pub reads_new : Reads size after new
   reads_new = record {
     enough = reads.enough;
-    mark = mark_there (begun_mark base target) new refl refl read
+    mark = mark_there (begun_mark base target) new refl (refl, refl) read
         (set_here old 2048 (mark_spelling (begun_mark base target)) 2048 refl);
     statuses =
         statuses_kept true old new (version_new ∙ sym version)

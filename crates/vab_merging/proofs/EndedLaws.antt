@@ -41,7 +41,7 @@ use Rattle.vab_device.proofs.Behind.{images_behind}
 use Rattle.vab_device.proofs.CheckLaws.{first_kept}
 use Rattle.vab_device.proofs.IdleLaws.{reads_idle}
 use Rattle.vab_device.proofs.OpeningLaws.{control_seen_in}
-use Rattle.vab_device.proofs.ReadingLaws.{control_is_seen, single_works, apart_known}
+use Rattle.vab_device.proofs.ReadingLaws.{control_is_seen, single_works, flags_known}
 use Rattle.vab_device.proofs.SameLaws.{geometry_same, tables_agree, images_same}
 use Rattle.vab_device.proofs.StayLaws.{copy_stays, copies_from, one_of}
 use Rattle.vab_device.proofs.Steps.{marked}
@@ -58,6 +58,8 @@ use Rattle.vab_marks.specs.Version.{partitions_under}
 use Rattle.vab_device.specs.Reading.{version_at, most_at}
 use Rattle.vab_device.proofs.MostLaws.{parts_all}
 use Rattle.vab_device.proofs.StayLaws.{version_there}
+use Rattle.vab_device.proofs.OverlayLaws.{update_none}
+use Rattle.vab_marks.specs.Mark.{is_idle}
 
 -- the mark is read as that of no update
 completed_there : (m : UpdateMark) (image : Image)
@@ -128,13 +130,15 @@ kept_ended base (suc (suc n)) ss seen g t scanned c below = absurd (omega (arith
 
 means_ended : (d : Device) (old new : Image)
     → d.plan ≡ None
+    → d.overlay ≡ None
     → is_some (plain_parts d.a) ≡ is_some d.a
     → is_some (plain_parts d.b) ≡ is_some d.b
     → images_on new (plain_parts d.a) ≡ images_on old d.a
     → images_on new (plain_parts d.b) ≡ images_on old d.b
     → mounted_on (ended_device d) new ≡ merge_ended (mounted_on d old)
 unfolding state_on
-means_ended d old new plan some_a some_b a b = rw (plan, some_a, some_b, a, b) refl
+means_ended d old new plan plain some_a some_b a b =
+    rw (plan, plain, some_a, some_b, a, b) refl
 
 -- ---- the device with the new mark
 
@@ -180,7 +184,7 @@ module _
 
   shape : r ≡ shaped
   shape = (λ i. record {
-    mark = as_phase r.mark marks.Merging (apart_known old r.mark is.reads.mark) phase i;
+    mark = as_phase r.mark marks.Merging (flags_known old r.mark is.reads.mark) refl phase i;
     statuses = r.statuses;
     control = r.control;
     geometry = r.geometry;
@@ -244,7 +248,7 @@ module _
   reads_new =
       reads_idle size new (rephased marks.Idle r.mark) is.reads.enough mark_new refl d.control
       r.geometry
-      one.0
+      one.0 refl
       (control_seen_in _ _ new d.control control_new)
       (geometry_same size old new
       (elsewhere 4104 (λ e. omega (arith, e)))
@@ -295,6 +299,7 @@ module _
   pub ended_means : mounted_on (ended_device d) new ≡ merge_ended (mounted_on d old)
   ended_means =
       means_ended d old new (unplanned_of d size marks.Merging dev refl merging)
+      (update_none d size dev (ap is_idle merging))
       (plain_there d.a) (plain_there d.b)
       (of_images d.a
       (λ s there.

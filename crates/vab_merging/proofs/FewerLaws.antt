@@ -1,7 +1,7 @@
 -- Stores that have all the exceptions that their statuses say are read also where there may be
 -- fewer, and where an image may stand in place.
-use Rattle.std.proofs.Common.{◌≡◌, inl, inr, ℕ, true, false, leb, List, [], ◌∷◌, length}
-use Rattle.std.proofs.Common.{Result, Ok, Err, refl, arith}
+use Rattle.std.proofs.Common.{◌≡◌, inl, inr, ℕ, true, false, leb, List, [], ◌∷◌, length, ap, ◌∙◌}
+use Rattle.std.proofs.Common.{Result, Ok, Err, refl, arith, sym}
 use Rattle.std.specs.Prelude.{Bool, map, Option, Some, None}
 use Rattle.std.proofs.lemmas.Bool.{cases_Bool, eqb-true, le-leb}
 use Rattle.vab_disk.specs.Disk.{Image}
@@ -18,9 +18,12 @@ use Rattle.vab_store.specs.Scan.{scan_of}
 use Rattle.vab_device.specs.declared.fault.StartFault.{StartFault}
 use Rattle.vab_device.specs.declared.fault.StartFault.TheVariants.{BadStore}
 use Rattle.vab_device.specs.Checks.{◌>>=◌}
-use Rattle.vab_device.specs.Stores.{Wanted, Scanned, first_named, image_wanted, wanted_of}
+use Rattle.vab_device.specs.Stores.{Wanted, Scanned, first_named, image_wanted, wanted_of, clean_by}
 use Rattle.vab_device.specs.Stores.{or_fewer, is_long, scan_read, scan_by, scan_at, scans_in}
 use Rattle.vab_device.proofs.CheckLaws.{bound}
+use Rattle.vab_device.proofs.StoreLaws.{clean_taken}
+use Rattle.vab_device.specs.Stores.{is_one}
+use Rattle.std.specs.Prelude.{◌&&◌}
 
 long_enough : (fewer : Bool) (count n : ℕ) → is_long fewer count n ≡ true → leb n count ≡ true
 long_enough true count n is = is
@@ -48,6 +51,16 @@ read_fewer w (Err fault) s is =
     absurd (let bad : (let x : Result Scanned StartFault = Err (BadStore w.name) in x ≡ Ok s) =
     is in cc)
 
+-- what ends clean does, however its list was read
+clean_again : (clean : Bool) (name store : List ℕ) (image : Image)
+    (x y : Result Scanned StartFault) (s : Scanned)
+    → x ≡ Ok s
+    → y ≡ Ok s
+    → clean_by clean name store image x ≡ Ok s
+    → clean_by clean name store image y ≡ Ok s
+clean_again clean name store image x y s one other is =
+    ap (clean_by clean name store image) (other ∙ sym one) ∙ is
+
 scan_fewer : (w : Wanted) (image : Image) (s : Scanned)
     → scan_at w image ≡ Ok s
     → scan_at (record w { fewer = true }) image ≡ Ok s
@@ -59,7 +72,11 @@ scan_fewer w image s is = by_store w w.store image s is
         → scan_by (record w { fewer = true }) store image ≡ Ok s
     by_store w None image s is = is
     by_store w (Some store) image s is =
-        read_fewer w (scan_of w.chunk store (length w.base) image) s is
+        let x = scan_of w.chunk store (length w.base) image in
+        let clean : Bool = w.clean && is_one w.chunk in
+        let read = clean_taken clean w.name store image (scan_read w x) s is in
+        clean_again clean w.name store image (scan_read w x)
+        (scan_read (record w { fewer = true }) x) s read (read_fewer w x s read) is
 
 -- ---- where an image may stand in place
 

@@ -43,7 +43,7 @@ use Rattle.vab_merging.proofs.BegunLaws.{kept_begun}
 use Rattle.vab_merging.proofs.SlotLaws.{both_of}
 use Rattle.vab_device.proofs.PhaseCases.{unplanned_of}
 use Rattle.vab_device.proofs.MarkLaws.{as_phase}
-use Rattle.vab_device.proofs.ReadingLaws.{apart_known}
+use Rattle.vab_device.proofs.ReadingLaws.{flags_known}
 use Rattle.vab_marks.specs.declared.version.MarkVersion.TheVariants.{Two}
 use Rattle.vab_device.specs.Reading.{version_at}
 use Rattle.vab_merging.proofs.BegunLaws.{version_new}
@@ -279,7 +279,7 @@ module _ (size : ℕ) (old : Image) where
 
     shape : r ≡ shaped
     shape = (λ i. record {
-      mark = as_phase r.mark marks.Staged (apart_known old r.mark is.reads.mark) phase i;
+      mark = as_phase r.mark marks.Staged (flags_known old r.mark is.reads.mark) refl phase i;
       statuses = r.statuses;
       control = r.control;
       geometry = r.geometry;

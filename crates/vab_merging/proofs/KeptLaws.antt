@@ -19,6 +19,10 @@ use Rattle.vab_merging.proofs.SlotLaws.{both_of}
 use Rattle.vab_marks.specs.Mark.{may_stand_apart}
 use Rattle.vab_device.proofs.MarkLaws.{not_apart}
 use Rattle.vab_device.proofs.PhaseCases.{no_target}
+use Rattle.vab_device.proofs.MarkLaws.{not_overlaid}
+use Rattle.vab_device.proofs.OverlayLaws.{update_none}
+use Rattle.vab_marks.specs.Mark.{is_idle}
+use Rattle.vab_device.specs.Kept.{IsOverlay, parts_at}
 
 -- ---- without the source
 
@@ -88,7 +92,7 @@ merging_kept d size is may =
       control = is.control;
       phase = inr (inr (inr refl));
       slot = omega arith;
-      apart = refl;
+      flags = (refl, refl);
       current = eq-eqb (other_slot n) d.control.current (sym may.running);
       has_a = has_a_at n d.a is.slot (ap is_some both.2);
       has_b = has_b_at n d.b is.slot (ap is_some both.3);
@@ -107,6 +111,11 @@ merging_kept d size is may =
           IsUpdate false (other_slot n) (table_of_slot (merging_device d) (other_slot n)) x)
           (sym other)
           (no_target false (other_slot n) (table_of_slot (merging_device d) (other_slot n)));
+      overlaid = is.overlaid ∙ not_overlaid d.mark is.flags (ap is_idle may.staged);
+      overlay = subst
+          (IsOverlay size (parts_at (merging_device d) (other_slot n)))
+          (sym (update_none d size is (ap is_idle may.staged)))
+          tt;
     }
 
 -- ---- without stores
@@ -157,7 +166,7 @@ ended_kept d size is merging =
       control = is.control;
       phase = inl refl;
       slot = is.slot;
-      apart = refl;
+      flags = (refl, refl);
       current = sym (has d.control.current) ∙ is.current;
       has_a = plain_there d.a ∙ is.has_a ∙ has 0;
       has_b = plain_there d.b ∙ is.has_b ∙ has 1;
@@ -174,5 +183,10 @@ ended_kept d size is merging =
           subst
           (λ (apart : Bool).
           IsUpdate apart n (table_of_slot d n) (table_of_slot d (other_slot n)))
-          (not_apart d.mark is.apart (ap may_stand_apart merging)) is.update;
+          (not_apart d.mark is.flags (ap may_stand_apart merging)) is.update;
+      overlaid = is.overlaid ∙ not_overlaid d.mark is.flags (ap is_idle merging);
+      overlay = subst
+          (IsOverlay size (parts_at (ended_device d) n))
+          (sym (update_none d size is (ap is_idle merging)))
+          tt;
     }

@@ -41,7 +41,7 @@ use Rattle.vab_device.specs.Reading.{Read, kept, Reads, AgreeCopies, Represents,
 use Rattle.vab_device.specs.Reading.{table_for}
 use Rattle.vab_device.specs.Stores.{Scanned, first_named, scanned_named}
 use Rattle.vab_device.proofs.CheckLaws.{first_kept}
-use Rattle.vab_device.proofs.ReadingLaws.{slot_below, apart_known}
+use Rattle.vab_device.proofs.ReadingLaws.{slot_below, flags_known}
 use Rattle.vab_device.proofs.StayLaws.{one_of}
 use Rattle.vab_merging.specs.Turns.{own_of, with_own, part_at, no_part}
 use Rattle.vab_merging.proofs.OwnLaws.{Single, own_kept}
@@ -121,7 +121,7 @@ merges_of d size image is merging =
     merging_read r.mark r.mark.slot r.statuses r.control r.geometry one.0 r.scanned in
     let e : r ≡ form =
     (λ i. record {
-      mark = as_phase r.mark marks.Merging (apart_known image r.mark is.reads.mark) phase i;
+      mark = as_phase r.mark marks.Merging (flags_known image r.mark is.reads.mark) refl phase i;
       statuses = r.statuses;
       control = r.control;
       geometry = r.geometry;

@@ -15,6 +15,8 @@ use Rattle.vab_device.specs.Updates.{merged_to}
 use Rattle.vab_marks.specs.Mark.{rephased, resloted}
 use Rattle.vab_device.proofs.MarkLaws.{as_mark}
 use Rattle.vab_merging.specs.Turns.{own_of, with_own, left_in}
+use Rattle.vab_device.proofs.OverlayLaws.{update_none}
+use Rattle.vab_marks.specs.Mark.{is_idle}
 
 -- ---- the two forms
 
@@ -25,6 +27,7 @@ in_a d parts = record d {
   a = Some parts;
   b = None;
   plan = None;
+  overlay = None;
 }
 
 abbrev pub in_b : Device → List Part → Device
@@ -33,6 +36,7 @@ in_b d parts = record d {
   a = None;
   b = Some parts;
   plan = None;
+  overlay = None;
 }
 
 pub record Single (d : Device) : Type 0 where
@@ -58,42 +62,45 @@ single_of d size is phase =
     is.has_a ∙ ap (λ (m : MarkPhase). has_slot m d.mark.slot 0) phase in
     let has_b : is_some d.b ≡ (d.mark.slot == 1) =
     is.has_b ∙ ap (λ (m : MarkPhase). has_slot m d.mark.slot 1) phase in
-    by_slot d.mark.slot refl is.slot plan has_a has_b
+    by_slot d.mark.slot refl is.slot plan (update_none d size is (ap is_idle phase)) has_a has_b
   where
     by_slot : (slot : ℕ)
         → d.mark.slot ≡ slot
         → d.mark.slot < 2
         → d.plan ≡ None
+        → d.overlay ≡ None
         → is_some d.a ≡ (d.mark.slot == 0)
         → is_some d.b ≡ (d.mark.slot == 1)
         → Single d
-    by_slot zero slot below plan has_a has_b =
+    by_slot zero slot below plan plain has_a has_b =
         let a = some_of d.a (has_a ∙ ap (λ (k : ℕ). k == 0) slot) in
         let b = none_of d.b (has_b ∙ ap (λ (k : ℕ). k == 1) slot) in
         record {
           parts = a.0;
           either =
               inl (λ i. record d {
-                mark = as_mark d.mark marks.Merging 0 is.apart phase slot i;
+                mark = as_mark d.mark marks.Merging 0 is.flags refl phase slot i;
                 a = a.1 i;
                 b = b i;
                 plan = plan i;
+                overlay = plain i;
               });
         }
-    by_slot (suc zero) slot below plan has_a has_b =
+    by_slot (suc zero) slot below plan plain has_a has_b =
         let a = none_of d.a (has_a ∙ ap (λ (k : ℕ). k == 0) slot) in
         let b = some_of d.b (has_b ∙ ap (λ (k : ℕ). k == 1) slot) in
         record {
           parts = b.0;
           either =
               inr (λ i. record d {
-                mark = as_mark d.mark marks.Merging 1 is.apart phase slot i;
+                mark = as_mark d.mark marks.Merging 1 is.flags refl phase slot i;
                 a = a i;
                 b = b.1 i;
                 plan = plan i;
+                overlay = plain i;
               });
         }
-    by_slot (suc (suc n)) slot below plan has_a has_b = absurd (omega (arith, slot, below))
+    by_slot (suc (suc n)) slot below plan plain has_a has_b = absurd (omega (arith, slot, below))
 
 -- what holds of both forms holds of the device
 pub by_form : (P : Device → Type 0) (d : Device)
@@ -154,7 +161,7 @@ with_kept d size ps s is parts =
       control = is.control;
       phase = is.phase;
       slot = is.slot;
-      apart = is.apart;
+      flags = is.flags;
       current = is.current;
       has_a = refl;
       has_b = refl;
@@ -168,6 +175,8 @@ with_kept d size ps s is parts =
       planned = refl;
       plan = tt;
       update = is.update;
+      overlaid = is.overlaid;
+      overlay = tt;
     })
     (λ is. record {
       enough = is.enough;
@@ -175,7 +184,7 @@ with_kept d size ps s is parts =
       control = is.control;
       phase = is.phase;
       slot = is.slot;
-      apart = is.apart;
+      flags = is.flags;
       current = is.current;
       has_a = refl;
       has_b = refl;
@@ -189,6 +198,8 @@ with_kept d size ps s is parts =
       planned = refl;
       plan = tt;
       update = is.update;
+      overlaid = is.overlaid;
+      overlay = tt;
     })
     is
 

@@ -1,5 +1,5 @@
 -- What is read of the stores where one of them has fewer exceptions.
-use Rattle.std.proofs.Common.{◌≡◌, ◌≢◌, ◌∙◌, inl, inr, ℕ, ◌-◌, true, false, List, [], ◌∷◌}
+use Rattle.std.proofs.Common.{◌≡◌, ◌≢◌, ◌∙◌, inl, inr, ℕ, ◌-◌, true, false, List, [], ◌∷◌, Bool}
 use Rattle.std.proofs.Common.{length, take, cond, leb, Result, Ok, Err, refl, sym, ap, subst}
 use Rattle.std.proofs.Common.{arith, length-take-le}
 use Rattle.std.specs.Prelude.{Option, Some, None, is_some, map, option_map, Contains}
@@ -34,6 +34,10 @@ use Rattle.vab_device.proofs.CheckLaws.{bound}
 use Rattle.vab_device.proofs.InStores.{scan_stays}
 use Rattle.vab_merging.proofs.ApartLaws.{InEither, store_miss}
 use Rattle.vab_device.proofs.NamedParts.{named_in}
+use Rattle.vab_device.specs.Stores.{clean_by}
+use Rattle.vab_device.proofs.StoreLaws.{clean_taken}
+use Rattle.vab_device.specs.Stores.{is_one}
+use Rattle.std.specs.Prelude.{◌&&◌}
 
 -- ---- fewer exceptions
 
@@ -133,17 +137,26 @@ unfolding scan_at
 is_read w store image s there is =
     let scanned : scan_by w (Some store) image ≡ Ok s =
     ap (λ (o : Option (List ℕ)). scan_by w o image) (sym there) ∙ is in
-    let four = read_of w (scan_of w.chunk store (length w.base) image) s scanned in
+    let x = scan_of w.chunk store (length w.base) image in
+    let read =
+    clean_taken (w.clean && is_one w.chunk) w.name store image (scan_read w x) s scanned in
+    let four = read_of w x s read in
     record { scan = four.0; name = four.1; chunk = four.2; long = four.3 }
 
 scan_made : (w : Wanted) (store : List ℕ) (image : Image) (es : List Exception)
     → w.store ≡ Some store
     → scan_of w.chunk store (length w.base) image ≡ Ok es
     → is_long w.fewer w.count (length es) ≡ true
+    → w.clean ≡ false
     → scan_at w image ≡ Ok (record { name = w.name; chunk = w.chunk; exceptions = es })
 unfolding scan_at
-scan_made w store image es there scan long =
-    ap (λ (o : Option (List ℕ)). scan_by w o image) there ∙ ap (scan_read w) scan ∙ rw long refl
+scan_made w store image es there scan long unasked =
+    ap (λ (o : Option (List ℕ)). scan_by w o image) there
+    ∙ ap
+    (λ (b : Bool). clean_by (b && is_one w.chunk) w.name store image
+    (scan_read w (scan_of w.chunk store (length w.base) image)))
+    unasked
+    ∙ ap (scan_read w) scan ∙ rw long refl
 
 -- an image in place has no exceptions
 placed_scan : (w : Wanted) (image : Image)
@@ -204,6 +217,7 @@ module _ (slot : ℕ) (l : Layout) (part keeps : PartOfLayout)
     chunk = size;
     count = count;
     fewer = true;
+    clean = false;
   }
 
   abbrev placed : List ℕ → PartOfLayout → Wanted
@@ -214,6 +228,7 @@ module _ (slot : ℕ) (l : Layout) (part keeps : PartOfLayout)
     chunk = One;
     count = 0;
     fewer = true;
+    clean = false;
   }
 
   -- a partition without a store isn't that one
@@ -374,7 +389,7 @@ module _ (slot : ℕ) (l : Layout) (part keeps : PartOfLayout)
         (sym (length-take-le (length s.exceptions - k) s.exceptions (omega arith)))
         (fewer_long count (length s.exceptions) read.long) in
         scan_made (wanted name count size p q) (sectors_of at q.blocks) new
-        (cut_list k s.exceptions) refl found_now long
+        (cut_list k s.exceptions) refl found_now long refl
         ∙ (λ i. Ok (record {
           name = sym read.name i;
           chunk = sym read.chunk i;
@@ -404,7 +419,7 @@ module _ (slot : ℕ) (l : Layout) (part keeps : PartOfLayout)
         in_q either))
         (length (sectors_of at p.blocks)) s.exceptions read.scan in
         scan_made (wanted name count size p q) (sectors_of at q.blocks) new s.exceptions refl
-        found_now read.long
+        found_now read.long refl
         ∙ (λ i. Ok (record {
           name = sym read.name i;
           chunk = sym read.chunk i;

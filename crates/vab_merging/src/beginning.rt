@@ -40,6 +40,7 @@ fn give_up_source<D: Disk>(d: &mut D, device: Device) -> Result<(Device, Reply),
         phase: MarkPhase::Merging,
         slot: 1 - device.mark.slot,
         apart: false,
+        overlaid: false,
     };
     match put_mark(d, &mark) {
         Err(fault) => Err(fault),

@@ -26,6 +26,7 @@ pub(crate) fn end_merge<D: Disk>(d: &mut D, device: Device) -> Result<Device, Di
     let mark = UpdateMark {
         phase: MarkPhase::Completed,
         apart: false,
+        overlaid: false,
         ..device.mark
     };
     match put_mark(d, &mark) {

@@ -67,29 +67,14 @@ fn plain(parts: Option<Listing<Part>>) -> Option<Listing<Part>>
 pub fn ended(device: Device) -> Device
     ensures { result ≡ ended_device device }
 {
+    let mut device = device;
     let mark = device.mark.with_phase(MarkPhase::Idle);
-    let Device {
-        geometry,
-        control,
-        mark: _,
-        cap,
-        groups,
+    let a = plain(device.a.take());
+    let b = plain(device.b.take());
+    Device {
+        mark,
         a,
         b,
-        table_a,
-        table_b,
-        plan,
-    } = device;
-    Device {
-        geometry,
-        control,
-        mark,
-        cap,
-        groups,
-        a: plain(a),
-        b: plain(b),
-        table_a,
-        table_b,
-        plan,
+        ..device
     }
 }

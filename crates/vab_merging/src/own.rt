@@ -14,73 +14,31 @@ pub fn take_own(device: Device) -> (Device, Listing<Part>)
     ensures parts { result.1 ≡ own_of device }
     ensures rest { (parts : List PartOf) → with_own result.0 parts ≡ with_own device parts }
 {
-    let Device {
-        geometry,
-        control,
-        mark,
-        cap,
-        groups,
-        a,
-        b,
-        table_a,
-        table_b,
-        plan,
-    } = device;
-    let (a, b, parts) = if mark.slot == 0 {
-        (None, b, a)
+    let mut device = device;
+    let own = if device.mark.slot == 0 {
+        device.a.take()
     } else {
-        (a, None, b)
+        device.b.take()
     };
-    let parts = match parts {
-        Some(parts) => parts,
+    match own {
+        Some(parts) => (device, parts),
         None => unreachable!(),
-    };
-    let rest = Device {
-        geometry,
-        control,
-        mark,
-        cap,
-        groups,
-        a,
-        b,
-        table_a,
-        table_b,
-        plan,
-    };
-    (rest, parts)
+    }
 }
 
 /// The device with these partitions of the slot of its mark. Takes no memory.
 pub fn give_own(device: Device, parts: Listing<Part>) -> Device
     ensures { result ≡ with_own device parts }
 {
-    let Device {
-        geometry,
-        control,
-        mark,
-        cap,
-        groups,
-        a,
-        b,
-        table_a,
-        table_b,
-        plan,
-    } = device;
-    let (a, b) = if mark.slot == 0 {
-        (Some(parts), b)
+    if device.mark.slot == 0 {
+        Device {
+            a: Some(parts),
+            ..device
+        }
     } else {
-        (a, Some(parts))
-    };
-    Device {
-        geometry,
-        control,
-        mark,
-        cap,
-        groups,
-        a,
-        b,
-        table_a,
-        table_b,
-        plan,
+        Device {
+            b: Some(parts),
+            ..device
+        }
     }
 }

@@ -22,6 +22,9 @@ pub data Command : Type 0 where
   BeginMerge : Command
   Merge : (blocks : ℕ) → Command
   UpdateSuper : Command
+  Overlay : (name : List ℕ) (size : ℕ) → Command
+  OverlayWrite : (block : ℕ) → Command
+  OverlayDiscard : Command
 
 abbrev pub command_of : CommandOfCode → Command
 command_of (code.SetActive slot) = SetActive slot
@@ -41,3 +44,6 @@ command_of code.Cancel = Cancel
 command_of code.BeginMerge = BeginMerge
 command_of (code.Merge blocks) = Merge blocks
 command_of code.UpdateSuper = UpdateSuper
+command_of (code.Overlay name size) = Overlay name.now size
+command_of (code.OverlayWrite block) = OverlayWrite block
+command_of code.OverlayDiscard = OverlayDiscard

@@ -6,12 +6,14 @@ use Rattle.sha2.specs.Sha256.{sha256}
 use Rattle.vab_bootctl.specs.declared.slots.Control.{Control}
 use Rattle.vab_names.specs.Names.{is_full, base_of}
 use Rattle.vab_model.specs.declared.state.Image.{Image}
+use Rattle.vab_model.specs.declared.state.Overlay.{Overlay}
 use Rattle.vab_model.specs.declared.state.State.{State}
 use Rattle.vab_model.specs.declared.command.Refusal.{Refusal}
 use Rattle.vab_model.specs.declared.command.Refusal.TheVariants.{BadName, Unknown, NoImages}
-use Rattle.vab_model.specs.declared.command.Refusal.TheVariants.{NoMemory}
+use Rattle.vab_model.specs.declared.command.Refusal.TheVariants.{NoMemory, NotIdle}
 use Rattle.vab_model.specs.declared.command.Reply.{Reply}
 use Rattle.vab_model.specs.declared.command.Reply.TheVariants as replies
+use Rattle.vab_model.specs.Over.{read_over}
 use Rattle.vab_model.specs.State.{with_control, image_named}
 
 -- A reply; the states that follow one another, none for a refusal or a question; and whether memory
@@ -54,10 +56,26 @@ found_in None name = Refused_by NoImages
 found_in (Some images) name = found_image (image_named (base_of name) images)
 
 -- the image of a name with a slot's suffix
-abbrev pub found_of : State → List ℕ → Found
-found_of s name =
+abbrev pub found_under : State → List ℕ → Found
+found_under s name =
     if is_full 0 name then found_in s.a name
     else (if is_full 1 name then found_in s.b name else Refused_by BadName)
+
+-- what was found as it is read, with what is written over it
+abbrev pub found_over : Option Overlay → Found → Found
+found_over overlay (Image_is image) = Image_is (read_over overlay image)
+found_over overlay (Refused_by refusal) = Refused_by refusal
+
+-- the image of a name as it is read
+abbrev pub found_of : State → List ℕ → Found
+found_of s name = found_over s.overlay (found_under s name)
+
+-- ---- an overlay
+
+-- where there is none: an update doesn't begin over one
+abbrev pub if_plain : {S : Type 0} → Option Overlay → Effect S → Effect S
+if_plain None next = next
+if_plain (Some overlay) next = refuses NotIdle
 
 -- ---- questions and boot control
 

@@ -3,7 +3,8 @@
 use Rattle.std.specs.Prelude.{◌≡◌, ℕ, Bool, true, false}
 use Rattle.vab_model.specs.Commands.{Command, SetActive, Boot, Mark, Print, Digest, Begin, Create}
 use Rattle.vab_model.specs.Commands.{Resize, Delete, Snapshot, Flash, Finish, Cancel, BeginMerge}
-use Rattle.vab_model.specs.Commands.{Merge, Factory, UpdateSuper}
+use Rattle.vab_model.specs.Commands.{Merge, Factory, UpdateSuper, Overlay, OverlayWrite}
+use Rattle.vab_model.specs.Commands.{OverlayDiscard}
 
 pub record Kind : Type 0 where
   -- it gives up the images of a source, changes where those of the target are read, or changes the
@@ -68,6 +69,9 @@ kind_of UpdateSuper = record plain {
   changes_images = true;
   uses_staged = true;
 }
+kind_of (Overlay name size) = record plain { changes_source = true }
+kind_of (OverlayWrite block) = record plain { uses_staged = true }
+kind_of OverlayDiscard = plain
 
 -- ---- what is asked of a command
 

@@ -1,5 +1,8 @@
 pub mod Commands
 pub mod Effects
+pub mod Over
+pub mod Overlay
+pub mod Writes
 pub mod Kinds
 pub mod State
 pub mod Plans

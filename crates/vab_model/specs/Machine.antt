@@ -26,8 +26,10 @@ use Rattle.vab_model.specs.declared.command.Reply.{Reply}
 use Rattle.vab_model.specs.declared.command.Reply.TheVariants as replies
 use Rattle.vab_model.specs.Commands.{Command, SetActive, Boot, Mark, Print, Digest, Begin, Create}
 use Rattle.vab_model.specs.Commands.{Resize, Delete, Snapshot, Flash, Finish, Cancel, BeginMerge}
-use Rattle.vab_model.specs.Commands.{Merge, Factory, UpdateSuper}
+use Rattle.vab_model.specs.Commands.{Merge, Factory, UpdateSuper, Overlay, OverlayWrite}
+use Rattle.vab_model.specs.Commands.{OverlayDiscard}
 use Rattle.vab_model.specs.Effects.{Effect, refuses, does, wanting, active_effect, found_of}
+use Rattle.vab_model.specs.Effects.{if_plain}
 use Rattle.vab_model.specs.Effects.{print_effect, digest_effect}
 use Rattle.vab_model.specs.State.{images_at, has_images, with_control, control_seen}
 pub use Rattle.vab_model.specs.State.{with_images}
@@ -37,6 +39,7 @@ use Rattle.vab_model.specs.Plans.{begun_plan, with_entries, first_group, created
 use Rattle.vab_model.specs.Plans.{resized_entry, stored_entry, written_entry, without_entry}
 use Rattle.vab_model.specs.Staged.{is_sparse, filled, differences}
 use Rattle.vab_model.specs.Wipe.{wipe_effect, no_judge, wiped}
+use Rattle.vab_model.specs.Overlay.{overlay_row, write_row, discard_row}
 
 -- ---- refusals, each in its place
 
@@ -311,8 +314,8 @@ machine_effect s staged Boot =
 machine_effect s staged Mark = does replies.Done (with_control (marked_of s.control) s)
 machine_effect s staged (Print name) = print_effect name (found_of s name)
 machine_effect s staged (Digest name) = digest_effect (found_of s name)
-machine_effect s staged Begin = begin_row s false s.phase
-machine_effect s staged Factory = begin_row s true s.phase
+machine_effect s staged Begin = if_plain s.overlay (begin_row s false s.phase)
+machine_effect s staged Factory = if_plain s.overlay (begin_row s true s.phase)
 machine_effect s staged (Create name size) = if_installing s.phase (create_row s name size)
 machine_effect s staged (Resize name size) = if_installing s.phase (resize_row s name size)
 machine_effect s staged (Delete name) = if_installing s.phase (delete_row s name)
@@ -324,4 +327,8 @@ machine_effect s staged Cancel = cancel_row s s.phase
 machine_effect s staged BeginMerge = begin_merge_row s s.phase
 machine_effect s staged (Merge count) = merge_row s count s.phase
 machine_effect s staged UpdateSuper =
-    wipe_effect no_judge no_judge (wiped s s.control.current) s.control.current staged s.phase
+    if_plain s.overlay
+    (wipe_effect no_judge no_judge (wiped s s.control.current) s.control.current staged s.phase)
+machine_effect s staged (Overlay name size) = overlay_row s name size
+machine_effect s staged (OverlayWrite block) = write_row s staged block s.overlay
+machine_effect s staged OverlayDiscard = discard_row s s.overlay

@@ -44,12 +44,19 @@ pub enum Command<'a> {
     Merge(u64),
     /// Makes the partitions of the staged image of an empty `super` those of the current slot.
     UpdateSuper,
+    /// Overlays a partition of the current slot: what is written over it goes into an exception
+    /// store of this size; 0: of the size that it needs at most.
+    Overlay(&'a [u8], u64),
+    /// Writes the staged bytes over this block of the overlaid partition.
+    OverlayWrite(u64),
+    /// Drops the overlay.
+    OverlayDiscard,
 }
 
 /// Why a command is refused. A refused command changes nothing.
 #[derive(Clone, Copy, Debug, PartialEq, Eq)]
 pub enum Refusal {
-    /// There is an update.
+    /// There is an update, or an overlay.
     NotIdle,
     /// No update is being installed.
     NotInstalling,
@@ -111,6 +118,12 @@ pub enum Refusal {
     OtherDevice,
     /// The partition of this whole name has extents in the staged image.
     NotEmpty(Name36),
+    /// There is no overlay.
+    NotOverlaid,
+    /// So many bytes are staged, and a block has 4096.
+    BadLength(u64),
+    /// The partition has no block of the first number: it has the second number of blocks.
+    BadBlock(u64, u64),
     /// Memory was refused.
     NoMemory,
 }

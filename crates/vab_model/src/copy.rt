@@ -2,7 +2,7 @@
 
 ghost use Rattle.std.specs.Prelude.{◌≡◌, IfOk};
 
-use crate::{GroupLimit, Image, NoMemory, Phase, Plan, PlanEntry, PlanImage, State};
+use crate::{GroupLimit, Image, NoMemory, Overlay, Phase, Plan, PlanEntry, PlanImage, State};
 use std::alloc::Global;
 use vab_bytes::{Bytes, Listing};
 
@@ -36,6 +36,21 @@ fn copy_entries(alloc: Global, plan: &Listing<PlanEntry>) -> Result<Listing<Plan
         copies.push(entry.copy(alloc)?)?;
     }
     Ok(Listing::from_vec(copies))
+}
+
+fn copy_blocks(alloc: Global, blocks: &Listing<u64>) -> Result<Listing<u64>, NoMemory>
+    ensures { IfOk result (λ x. x ≡ blocks.now) }
+{
+    Ok(Listing::from_vec(Vec::from_slice(alloc, blocks.as_slice())?))
+}
+
+fn copy_overlay(alloc: Global, overlay: &Option<Overlay>) -> Result<Option<Overlay>, NoMemory>
+    ensures { IfOk result (λ x. x ≡ overlay.now) }
+{
+    match overlay {
+        None => Ok(None),
+        Some(overlay) => Ok(Some(overlay.copy(alloc)?)),
+    }
 }
 
 fn copy_slot(
@@ -114,6 +129,19 @@ impl Phase {
     }
 }
 
+impl Overlay {
+    fn copy(&self, alloc: Global) -> Result<Overlay, NoMemory>
+        ensures { IfOk result (λ x. x ≡ self.now) }
+    {
+        Ok(Overlay {
+            name: self.name,
+            store: self.store,
+            blocks: copy_blocks(alloc, &self.blocks)?,
+            bytes: copy_bytes(alloc, &self.bytes)?,
+        })
+    }
+}
+
 impl State {
     /// The same state, in memory of its own.
     pub fn copy(&self, alloc: Global) -> Result<State, NoMemory>
@@ -126,6 +154,7 @@ impl State {
             a: copy_slot(alloc, &self.a)?,
             b: copy_slot(alloc, &self.b)?,
             phase: self.phase.copy(alloc)?,
+            overlay: copy_overlay(alloc, &self.overlay)?,
         })
     }
 }

@@ -69,6 +69,19 @@ pub enum Phase {
     Merging(usize, u64),
 }
 
+/// What is written over a partition, and read in its place.
+#[derive(Drop)]
+pub struct Overlay {
+    /// The base name of the partition, one of the current slot's.
+    pub name: Name36,
+    /// Blocks of 4096 bytes of the exception store that holds the writes.
+    pub store: u64,
+    /// The blocks of the partition that were written over, counted from 0, each once.
+    pub blocks: Listing<u64>,
+    /// What the partition reads as: its own bytes, with what was written last over each block.
+    pub bytes: Bytes,
+}
+
 /// The state of a device.
 #[derive(Drop)]
 pub struct State {
@@ -83,4 +96,6 @@ pub struct State {
     /// The images of slot b.
     pub b: Option<Listing<Image>>,
     pub phase: Phase,
+    /// What is written over a partition of the current slot, where there is no update.
+    pub overlay: Option<Overlay>,
 }

@@ -17,6 +17,7 @@ use Rattle.vab_space.specs.Space.{need_of}
 use Rattle.vab_space.specs.declared.Chunk.TheVariants.{One}
 use Rattle.vab_space.specs.Chunks.{page_block}
 use Rattle.vab_space.proofs.ChunkLaws.{page_apart, page_positive, data_other}
+use Rattle.vab_store.specs.Clean.{EndsClean}
 use Rattle.vab_store.specs.Layout.{chunk_bytes, slot_at, slots_of, pages_of, IsApart, AreDisjoint}
 use Rattle.vab_store.specs.Scan.{IsScan}
 use Rattle.vab_store.specs.Sectors.{page_sector, entry_sector}
@@ -31,7 +32,7 @@ use Rattle.vab_store.proofs.SlotLaws.{AreWhole, slot_in_sector, sector_other}
 use Rattle.vab_store.proofs.ViewLaws.{view_in}
 use Rattle.vab_overlay.specs.Data.{next_page}
 use Rattle.vab_overlay.specs.Entry.{WithEntry}
-use Rattle.vab_overlay.specs.Overlaid.{EndsClean, IsOverlaid, IsWritten}
+use Rattle.vab_overlay.specs.Overlaid.{IsOverlaid, IsWritten}
 use Rattle.vab_overlay.proofs.DataLaws.{base_kept}
 use Rattle.vab_overlay.proofs.EnteredLaws.{was_there, place_inside, at_place}
 use Rattle.vab_overlay.proofs.EnteredLaws.{entered_fits}
@@ -238,7 +239,7 @@ module _ (store : List ℕ) (bound : ℕ) (es : List Exception) (block chunk : �
             ]
       ]
 
-  clean_new : EndsClean store now new
+  clean_new : EndsClean store (length now) new
   clean_new t behind page =
       let below : t < slots_of One store = omega (arith, new_fits.room, page) in
       let other : t ≢ entry_place es block = λ same.

@@ -1,11 +1,11 @@
 -- A store over a partition, and what it is once a block was written into it. Chunks are of one
 -- block.
-use Rattle.std.specs.Prelude.{◌≡◌, ◌≢◌, ◌⊎◌, ℕ, ◌/◌, ◌≤◌, ◌<◌, List, length, Ok}
+use Rattle.std.specs.Prelude.{◌≡◌, ◌≢◌, ◌⊎◌, ℕ, ◌<◌, List, length, Ok}
 use Rattle.vab_disk.specs.Disk.{Image, Outcome}
 use Rattle.vab_exceptions.specs.declared.area.Exception.{Exception}
 use Rattle.vab_space.specs.declared.Chunk.TheVariants.{One}
-use Rattle.vab_space.specs.Chunks.{page_entries}
-use Rattle.vab_store.specs.Layout.{slot_at, IsOnDisk, AreDisjoint, InFirst}
+use Rattle.vab_store.specs.Clean.{EndsClean}
+use Rattle.vab_store.specs.Layout.{IsOnDisk, AreDisjoint, InFirst}
 use Rattle.vab_store.specs.Scan.{scan_of}
 use Rattle.vab_store.specs.Seen.{view_block}
 use Rattle.vab_store.specs.Setting.{entry_place, set_entry, IsLowestFree}
@@ -20,18 +20,11 @@ pub record MayOverlay (store : List ℕ) (es : List Exception) (block size : ℕ
   pub fits : Fits One bound store es
   pub on_disk : IsOnDisk store size
 
--- no entry of the page in which the list ends is an exception from that end on
-abbrev pub EndsClean : List ℕ → List Exception → Image → Type 0
-EndsClean store es image = (t : ℕ)
-    → length es ≤ t
-    → t / page_entries ≡ length es / page_entries
-    → (slot_at One store image t).new_chunk ≡ 0
-
 -- these are the store's exceptions, and they end clean
 pub record IsOverlaid (store : List ℕ) (bound : ℕ) (es : List Exception) (image : Image) : Type 0
   where
     pub scanned : scan_of One store bound image ≡ Ok es
-    pub clean : EndsClean store es image
+    pub clean : EndsClean store (length es) image
 
 -- the list with the lowest data chunk that no exception has for this block
 pub record IsEntered (es : List Exception) (block : ℕ) (now : List Exception) : Type 0 where

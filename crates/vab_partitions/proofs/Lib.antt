@@ -8,3 +8,4 @@ pub mod BadTarget
 pub mod MergingLaws
 pub mod MostLaws
 pub mod TwinLaws
+pub mod OverlayLaws

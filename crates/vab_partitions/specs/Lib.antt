@@ -7,3 +7,4 @@ pub mod Front
 pub mod TargetRules
 pub mod MergingRules
 pub mod Twins
+pub mod Overlay

@@ -59,7 +59,11 @@ fn passes_alone(
 }
 
 /// Writes the blocks of a partition at the end.
-fn push_blocks(blocks: &mut Blocks, table: &Table, partition: &Partition) -> Result<(), NoMemory>
+pub(crate) fn push_blocks(
+    blocks: &mut Blocks,
+    table: &Table,
+    partition: &Partition,
+) -> Result<(), NoMemory>
     requires keeps { KeepsRules table.now }
     requires extents { partition.now.first_extent + partition.now.extent_count
         ≤ length table.now.extents }
@@ -69,7 +73,7 @@ fn push_blocks(blocks: &mut Blocks, table: &Table, partition: &Partition) -> Res
 }
 
 /// The blocks of all own partitions of a slot, in the order of the table.
-fn own_blocks(alloc: Global, table: &Table, slot: usize) -> Result<Blocks, NoMemory>
+pub(crate) fn own_blocks(alloc: Global, table: &Table, slot: usize) -> Result<Blocks, NoMemory>
     requires slot { slot < 2 }
     requires keeps { KeepsRules table.now }
     ensures { IfOk result (λ b. b ≡ blocks_of_parts (own_parts slot (layout_of table.now).parts)) }

@@ -5,5 +5,5 @@
 mod partitions;
 mod planning;
 
-pub use partitions::{limits, map, parts};
+pub use partitions::{limits, map, part, parts};
 pub use planning::{Scan, named, plan, store_map};

@@ -48,8 +48,8 @@ pub fn base(name: &Name36) -> Name36
     }
 }
 
-// A partition with its blocks on the disk.
-fn part(alloc: Global, table: &Table, partition: &Partition) -> Result<Part, StartFault>
+/// A partition with its blocks on the disk, without a store.
+pub fn part(alloc: Global, table: &Table, partition: &Partition) -> Result<Part, StartFault>
     requires keeps { KeepsRules table.now }
     requires rules { IsPartition table.now.minor (length table.now.extents)
         (length table.now.groups) partition.now }

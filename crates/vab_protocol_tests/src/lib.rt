@@ -16,6 +16,8 @@ mod inputs;
 #[cfg(test)]
 mod lines;
 #[cfg(test)]
+mod overlaying;
+#[cfg(test)]
 mod variables;
 #[cfg(test)]
 mod words;

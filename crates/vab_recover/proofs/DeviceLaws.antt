@@ -35,14 +35,15 @@ use Rattle.vab_marks.specs.declared.status.PartStatus.{PartStatus}
 use Rattle.vab_lpstore.specs.declared.loaded.Loaded.{Loaded}
 use Rattle.vab_layout.specs.Slots.{store_parts, is_updated, IsTargetBeside}
 use Rattle.vab_device.specs.Kept.{IsStore, IsStored, IsPart, AreParts, AreOfUpdate, IsPhase}
-use Rattle.vab_device.specs.Kept.{has_slot, reads_both}
-use Rattle.vab_device.specs.Phases.{store_on, planned_image, planned_on, plan_of}
+use Rattle.vab_device.specs.Kept.{has_slot, reads_both, IsOverlay}
+use Rattle.vab_device.specs.Phases.{store_on, planned_image, planned_on, plan_of, overlay_of}
 use Rattle.vab_device.specs.Reading.{kept}
 use Rattle.vab_device.specs.Stores.{Scanned, first_named, scanned_named}
 use Rattle.vab_partitions.specs.Merging.{IsMerging}
 use Rattle.vab_plan.specs.Scans.{IsTargetTable}
 use Rattle.vab_recover.specs.Scans.{AreExceptions, IsScanned}
 use Rattle.vab_recover.specs.Opened.{read_of, target_tables, AreHeads}
+use Rattle.vab_device.proofs.MarkLaws.{not_overlaid}
 use Rattle.vab_device.proofs.OwnParts.{length-sectors_of}
 use Rattle.vab_device.proofs.OwnParts.{blocks_on, parts_kept}
 
@@ -177,6 +178,16 @@ module _
 
 -- ---- the device
 
+-- the partition that is overlaid, of a slot with these
+pub record IsOverlaidHere
+    (size : ℕ)
+    (overlaid : Bool)
+    (slot : ℕ)
+    (l : Layout)
+    (ss : List Scanned) : Type 0 where
+  pub there : is_some (overlay_of overlaid slot l ss) ≡ overlaid
+  pub fits : IsOverlay size (Some (parts_of slot l)) (overlay_of overlaid slot l ss)
+
 by_case : (size : ℕ) (base : UpdateMark) (phase : MarkPhase) (slot : ℕ)
     (statuses : List (Option PartStatus))
     (c : Control)
@@ -189,18 +200,19 @@ by_case : (size : ℕ) (base : UpdateMark) (phase : MarkPhase) (slot : ℕ)
     → is_some t ≡ reads_both phase
     → IfSome t (λ l. AreParts size (plan_of (other_slot slot) (layout_of l.table) ss))
     → (phase ≡ marks.Merging → AreParts size (plan_of slot (layout_of s) ss))
+    → (phase ≡ marks.Idle → IsOverlaidHere size base.overlaid slot (layout_of s) ss)
     → AreParts size (parts_of slot (layout_of s))
     → (let m : UpdateMark = record base { phase = phase; slot = slot } in
     IsDevice (record (kept (read_of m statuses c g (s ∷ target_tables t) ss)) { control = c }) size)
 by_case size base marks.Idle zero statuses c g s None ss
-    heads current source target update both plan own parts =
+    heads current source target update both plan own over parts =
     record {
       enough = heads.enough;
       geometry = heads.geometry;
       control = heads.control;
       phase = inl refl;
       slot = heads.slot;
-      apart = heads.apart;
+      flags = heads.flags;
       current = current;
       has_a = refl;
       has_b = refl;
@@ -214,16 +226,18 @@ by_case size base marks.Idle zero statuses c g s None ss
       planned = refl;
       plan = tt;
       update = tt;
+      overlaid = (over refl).there;
+      overlay = (over refl).fits;
     }
 by_case size base marks.Idle (suc zero) statuses c g s None ss
-    heads current source target update both plan own parts =
+    heads current source target update both plan own over parts =
     record {
       enough = heads.enough;
       geometry = heads.geometry;
       control = heads.control;
       phase = inl refl;
       slot = heads.slot;
-      apart = heads.apart;
+      flags = heads.flags;
       current = current;
       has_a = refl;
       has_b = refl;
@@ -237,16 +251,18 @@ by_case size base marks.Idle (suc zero) statuses c g s None ss
       planned = refl;
       plan = tt;
       update = tt;
+      overlaid = (over refl).there;
+      overlay = (over refl).fits;
     }
 by_case size base marks.Installing zero statuses c g s (Some l) ss
-    heads current source target update both plan own parts =
+    heads current source target update both plan own over parts =
     record {
       enough = heads.enough;
       geometry = heads.geometry;
       control = heads.control;
       phase = inr (inl refl);
       slot = heads.slot;
-      apart = heads.apart;
+      flags = heads.flags;
       current = current;
       has_a = refl;
       has_b = refl;
@@ -260,16 +276,19 @@ by_case size base marks.Installing zero statuses c g s (Some l) ss
       planned = refl;
       plan = plan;
       update = update;
+      overlaid =
+          sym (not_overlaid (record base { phase = marks.Installing; slot = 0 }) heads.flags refl);
+      overlay = tt;
     }
 by_case size base marks.Installing (suc zero) statuses c g s (Some l) ss
-    heads current source target update both plan own parts =
+    heads current source target update both plan own over parts =
     record {
       enough = heads.enough;
       geometry = heads.geometry;
       control = heads.control;
       phase = inr (inl refl);
       slot = heads.slot;
-      apart = heads.apart;
+      flags = heads.flags;
       current = current;
       has_a = refl;
       has_b = refl;
@@ -283,16 +302,19 @@ by_case size base marks.Installing (suc zero) statuses c g s (Some l) ss
       planned = refl;
       plan = plan;
       update = update;
+      overlaid =
+          sym (not_overlaid (record base { phase = marks.Installing; slot = 1 }) heads.flags refl);
+      overlay = tt;
     }
 by_case size base marks.Staged zero statuses c g s (Some l) ss
-    heads current source target update both plan own parts =
+    heads current source target update both plan own over parts =
     record {
       enough = heads.enough;
       geometry = heads.geometry;
       control = heads.control;
       phase = inr (inr (inl refl));
       slot = heads.slot;
-      apart = heads.apart;
+      flags = heads.flags;
       current = refl;
       has_a = refl;
       has_b = refl;
@@ -306,16 +328,19 @@ by_case size base marks.Staged zero statuses c g s (Some l) ss
       planned = refl;
       plan = tt;
       update = update;
+      overlaid =
+          sym (not_overlaid (record base { phase = marks.Staged; slot = 0 }) heads.flags refl);
+      overlay = tt;
     }
 by_case size base marks.Staged (suc zero) statuses c g s (Some l) ss
-    heads current source target update both plan own parts =
+    heads current source target update both plan own over parts =
     record {
       enough = heads.enough;
       geometry = heads.geometry;
       control = heads.control;
       phase = inr (inr (inl refl));
       slot = heads.slot;
-      apart = heads.apart;
+      flags = heads.flags;
       current = refl;
       has_a = refl;
       has_b = refl;
@@ -329,37 +354,40 @@ by_case size base marks.Staged (suc zero) statuses c g s (Some l) ss
       planned = refl;
       plan = tt;
       update = update;
+      overlaid =
+          sym (not_overlaid (record base { phase = marks.Staged; slot = 1 }) heads.flags refl);
+      overlay = tt;
     }
 by_case size base phase (suc (suc n)) statuses c g s t ss
-    heads current source target update both plan own parts =
+    heads current source target update both plan own over parts =
     absurd (omega (arith, heads.slot))
 by_case size base marks.Idle zero statuses c g s (Some l) ss
-    heads current source target update both plan own parts =
+    heads current source target update both plan own over parts =
     absurd (let no : true ≡ false = both in cc)
 by_case size base marks.Idle (suc zero) statuses c g s (Some l) ss
-    heads current source target update both plan own parts =
+    heads current source target update both plan own over parts =
     absurd (let no : true ≡ false = both in cc)
 by_case size base marks.Installing zero statuses c g s None ss
-    heads current source target update both plan own parts =
+    heads current source target update both plan own over parts =
     absurd (let no : false ≡ true = both in cc)
 by_case size base marks.Installing (suc zero) statuses c g s None ss
-    heads current source target update both plan own parts =
+    heads current source target update both plan own over parts =
     absurd (let no : false ≡ true = both in cc)
 by_case size base marks.Staged zero statuses c g s None ss
-    heads current source target update both plan own parts =
+    heads current source target update both plan own over parts =
     absurd (let no : false ≡ true = both in cc)
 by_case size base marks.Staged (suc zero) statuses c g s None ss
-    heads current source target update both plan own parts =
+    heads current source target update both plan own over parts =
     absurd (let no : false ≡ true = both in cc)
 by_case size base marks.Merging zero statuses c g s None ss
-    heads current source target update both plan own parts =
+    heads current source target update both plan own over parts =
     record {
       enough = heads.enough;
       geometry = heads.geometry;
       control = heads.control;
       phase = inr (inr (inr refl));
       slot = heads.slot;
-      apart = heads.apart;
+      flags = heads.flags;
       current = current;
       has_a = refl;
       has_b = refl;
@@ -373,16 +401,19 @@ by_case size base marks.Merging zero statuses c g s None ss
       planned = refl;
       plan = tt;
       update = tt;
+      overlaid =
+          sym (not_overlaid (record base { phase = marks.Merging; slot = 0 }) heads.flags refl);
+      overlay = tt;
     }
 by_case size base marks.Merging (suc zero) statuses c g s None ss
-    heads current source target update both plan own parts =
+    heads current source target update both plan own over parts =
     record {
       enough = heads.enough;
       geometry = heads.geometry;
       control = heads.control;
       phase = inr (inr (inr refl));
       slot = heads.slot;
-      apart = heads.apart;
+      flags = heads.flags;
       current = current;
       has_a = refl;
       has_b = refl;
@@ -396,15 +427,18 @@ by_case size base marks.Merging (suc zero) statuses c g s None ss
       planned = refl;
       plan = tt;
       update = tt;
+      overlaid =
+          sym (not_overlaid (record base { phase = marks.Merging; slot = 1 }) heads.flags refl);
+      overlay = tt;
     }
 by_case size base marks.Merging zero statuses c g s (Some l) ss
-    heads current source target update both plan own parts =
+    heads current source target update both plan own over parts =
     absurd (let no : true ≡ false = both in cc)
 by_case size base marks.Merging (suc zero) statuses c g s (Some l) ss
-    heads current source target update both plan own parts =
+    heads current source target update both plan own over parts =
     absurd (let no : true ≡ false = both in cc)
 by_case size base marks.Completed slot statuses c g s t ss
-    heads current source target update both plan own parts =
+    heads current source target update both plan own over parts =
     absurd (no_phase heads.phase)
   where
     no_phase : IsPhase marks.Completed → ⊥
@@ -424,11 +458,12 @@ pub device_kept : (size : ℕ) (m : UpdateMark) (statuses : List (Option PartSta
     → is_some t ≡ reads_both m.phase
     → IfSome t (λ l. AreParts size (plan_of (other_slot m.slot) (layout_of l.table) ss))
     → (m.phase ≡ marks.Merging → AreParts size (plan_of m.slot (layout_of s) ss))
+    → (m.phase ≡ marks.Idle → IsOverlaidHere size m.overlaid m.slot (layout_of s) ss)
     → IsDevice (record (kept (read_of m statuses c g (s ∷ target_tables t) ss)) { control = c })
     size
-device_kept size m statuses c g s t ss heads current source target update both plan own =
+device_kept size m statuses c g s t ss heads current source target update both plan own over =
     by_case size m m.phase m.slot statuses c g s t ss heads current source target update both plan
-    own
+    own over
     (parts_kept size m.slot g (layout_of s) heads.enough (layout_keeps s source.rules) source.own
     source.lies)
 

@@ -7,15 +7,16 @@ use Rattle.vab_bootctl.specs.declared.slots.Control.{Control}
 use Rattle.vab_marks.specs.declared.mark.MarkPhase.{MarkPhase}
 use Rattle.vab_marks.specs.declared.mark.MarkPhase.TheVariants as marks
 use Rattle.vab_marks.specs.declared.mark.UpdateMark.{UpdateMark}
+use Rattle.vab_marks.specs.Mark.{is_idle}
 use Rattle.vab_marks.specs.declared.status.PartStatus.{PartStatus}
 use Rattle.vab_geometry.specs.declared.geometry.Geometry.{Geometry}
 use Rattle.vab_tables.specs.declared.table.Table.{Table}
 use Rattle.vab_tables.specs.Rules.{end_of}
 use Rattle.vab_lpstore.specs.declared.loaded.Loaded.{Loaded}
 use Rattle.vab_layout.specs.Layout.{layout_of}
+use Rattle.vab_layout.proofs.LayoutLaws.{layout_keeps}
 use Rattle.vab_layout.specs.Slots.{other_slot, twins_by, IsOwn}
 use Rattle.vab_device.specs.declared.device.Device.{Device}
-use Rattle.vab_device.specs.declared.device.Part.{Part}
 use Rattle.vab_partitions.specs.Merging.{IsMerging}
 use Rattle.vab_device.specs.Kept.{has_slot, reads_both, IsTableOf, AreParts, AreOfUpdate, IsDevice}
 use Rattle.vab_device.specs.Phases.{plan_of}
@@ -25,7 +26,10 @@ use Rattle.vab_plan.specs.Scans.{IsTargetTable}
 use Rattle.vab_recover.specs.Scans.{IsScanned}
 use Rattle.vab_recover.specs.Opened.{with_tables, AreHeads}
 use Rattle.vab_recover.specs.Opened.{IsTableThere, AreTablesThere, IsAssembled, is_merging}
-use Rattle.vab_recover.specs.Opened.{through_of, through_slot}
+use Rattle.vab_recover.specs.Opened.{through_of, through_slot, overlay_by}
+use Rattle.vab_recover.specs.Overlay.{KeepsOverlay, AreOverScanned}
+use Rattle.vab_recover.specs.declared.stores.Stored.{Stored}
+use Rattle.vab_recover.proofs.OverlaidLaws.{overlaid_here}
 use Rattle.vab_recover.proofs.DeviceLaws.{device_kept, plan_kept, target_table, merging_table}
 use Rattle.vab_recover.proofs.DeviceLaws.{target_on_disk}
 use Rattle.vab_recover.proofs.FrameLaws.{kept_is, through_parts}
@@ -112,6 +116,11 @@ module _
     (merging : IsNone t.target
     → is_merging m.phase ≡ true
     → IsMerging m.slot (layout_of t.source.table).parts) where
+  pub source_on_disk : 4120 ≤ size
+      → 4096 + end_of (layout_of t.source.table).device ≤ size
+  source_on_disk enough =
+      target_on_disk size g t.source.table enough there.source.text.rules there.source.lies
+
   alone : is_merging m.phase ≡ true → IsNone t.target
   alone is = there.both ∙ not_both m.phase is
 
@@ -144,18 +153,24 @@ module _
 
   -- the device that was put together is one on the disk
   pub assembled_kept : (d : Device) (ss : List (Option PartStatus)) (c : Control)
-      (through : Option (List Part)) (scanned : List Scanned)
+      (x : Stored) (scanned : List Scanned)
       → AreHeads size m c g
       → has_slot m.phase m.slot c.current ≡ true
       → IsOwn m.slot (layout_of t.source.table).parts
-      → IsAssembled d m c g t.source.table through
-      → through ≡ through_parts m.phase m.slot t.source t.target scanned
+      → (IsNone t.target
+      → is_merging m.phase ≡ false
+      → KeepsOverlay m.overlaid m.slot (layout_of t.source.table))
+      → IsAssembled d m c g t.source.table x
+      → x.through ≡ through_parts m.phase m.slot t.source t.target scanned
+      → x.overlay ≡ overlay_by m t.source.table scanned
       → IfSome (through_of m.phase t.source t.target)
       (λ l. All (IsScanned (through_slot m.phase m.slot) (layout_of l.table)) scanned)
+      → (is_idle m.phase ≡ true
+      → AreOverScanned m.overlaid m.slot (layout_of t.source.table) scanned)
       → IsDevice (with_tables t d) size
-  assembled_kept d ss c through scanned heads current own is planned are =
+  assembled_kept d ss c x scanned heads current own judged is planned overlaid are over =
       let kept =
-      kept_is d t m ss c g through scanned heads.phase heads.slot there.both is planned in
+      kept_is d t m ss c g x scanned heads.phase heads.slot there.both is planned overlaid in
       let parts = plans_kept size (through_slot m.phase m.slot) g
       (through_of m.phase t.source t.target) scanned heads.enough through_there through_are are in
       subst (λ (x : Device). IsDevice x size) (sym kept)
@@ -167,7 +182,12 @@ module _
         lies = there.source.lies;
       })
       (targets_kept m.apart size m.slot g t.source.table t.target there.target update)
-      update there.both (of_target parts) (of_own parts))
+      update there.both (of_target parts) (of_own parts)
+      (λ idle.
+      overlaid_here size m.slot g (layout_of t.source.table) m.overlaid scanned heads.enough
+      (layout_keeps t.source.table there.source.text.rules) own there.source.lies
+      (judged (there.both ∙ ap reads_both idle) (ap is_merging idle))
+      (over (ap is_idle idle))))
     where
       none_all : {X : Type 0} (P : X → Type 0) (x : Option X) → IsNone x → IfSome x P
       none_all P None is = tt

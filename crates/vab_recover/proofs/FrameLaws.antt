@@ -18,7 +18,7 @@ use Rattle.vab_device.specs.declared.device.Device.{Device}
 use Rattle.vab_device.specs.declared.device.Part.{Part}
 use Rattle.vab_device.specs.Checks.{first_fault}
 use Rattle.vab_device.specs.Kept.{reads_both, IsPhase}
-use Rattle.vab_device.specs.Phases.{phase_in, phase_at, own_check, merging_check}
+use Rattle.vab_device.specs.Phases.{phase_in, phase_at, merging_check}
 use Rattle.vab_device.specs.Reading.{Read, control_in, control_kept}
 use Rattle.vab_device.specs.Reading.{geometry_at, tables_in, table_for, parts_for}
 use Rattle.vab_device.specs.Reading.{state_fault, stores_of, kept, device, Reads}
@@ -28,11 +28,12 @@ use Rattle.vab_device.proofs.OpeningLaws.{device_no_tables, device_judged, devic
 use Rattle.vab_device.proofs.OpeningLaws.{device_stated, reads_of, control_seen_in, or_first}
 use Rattle.vab_device.proofs.ReadingLaws.{FrameReads, seen_slots}
 use Rattle.vab_recover.specs.declared.frame.Frame.{Frame}
+use Rattle.vab_recover.specs.declared.stores.Stored.{Stored}
 use Rattle.vab_recover.specs.declared.table.Tables.{Tables}
 use Rattle.vab_recover.specs.Opened.{read_of, IsMarked, IsHeaded, IsFramed, target_tables}
-use Rattle.vab_recover.specs.Opened.{tables_of, slots_fault, slot_parts, planned_by, is_merging}
-use Rattle.vab_recover.specs.Opened.{reads_statuses, may_place, through_of, through_slot}
-use Rattle.vab_recover.specs.Opened.{target_slots, fault_of, stores_by, plan_by, IsAssembled}
+use Rattle.vab_recover.specs.Opened.{tables_of, slots_fault, slot_parts, planned_by}
+use Rattle.vab_recover.specs.Opened.{reads_statuses, through_of, through_slot, overlay_by}
+use Rattle.vab_recover.specs.Opened.{target_slots, fault_of, stores_at, plan_by, IsAssembled}
 use Rattle.vab_recover.specs.Opened.{with_tables, table_if, IsOpened, AreLoaded}
 use Rattle.vab_marks.specs.Version.{partitions_under}
 use Rattle.vab_device.specs.Reading.{part_fault, most_at}
@@ -85,8 +86,7 @@ pub record IsOfPhase
       ≡ fault_of most (mark_in_phase base phase slot) s.table t
   pub stores : (sts : List PartStatus)
       → (phase_at (mark_in_phase base phase slot)).stores (s.table ∷ target_tables t) sts
-      ≡ stores_by (is_merging phase) (may_place (mark_in_phase base phase slot))
-      (through_slot phase slot) (through_of phase s t) sts
+      ≡ stores_at (mark_in_phase base phase slot) s t sts
   pub state : (c : Control) (ss : List Scanned)
       → first_fault
       ((phase_at (mark_in_phase base phase slot)).state_checks
@@ -96,6 +96,9 @@ pub record IsOfPhase
   pub plan : (ss : List Scanned)
       → planned_by phase (through_parts phase slot s t ss)
       ≡ (phase_at (mark_in_phase base phase slot)).plan (s.table ∷ target_tables t) ss
+  pub overlay : (ss : List Scanned)
+      → overlay_by (mark_in_phase base phase slot) s.table ss
+      ≡ (phase_at (mark_in_phase base phase slot)).overlay (s.table ∷ target_tables t) ss
   pub a : (ss : List Scanned)
       → slot_parts (mark_in_phase base phase slot) 0 s.table (through_parts phase slot s t ss)
       ≡ parts_for 0 (phase_at (mark_in_phase base phase slot)).has_a
@@ -117,20 +120,22 @@ of_phase : (base : UpdateMark) (phase : MarkPhase) (slot : ℕ) (s : Loaded) (t 
     → is_some t ≡ reads_both phase
     → IsOfPhase base phase slot s t
 of_phase base marks.Idle zero s None is below both = record {
-  parts = λ most. or_first (own_check most 0 s.table);
+  parts = λ most. refl;
   stores = λ sts. refl;
   state = λ c ss. refl;
   plan = λ ss. refl;
+  overlay = λ ss. refl;
   a = λ ss. refl;
   b = λ ss. refl;
   table_a = refl;
   table_b = refl;
 }
 of_phase base marks.Idle (suc zero) s None is below both = record {
-  parts = λ most. or_first (own_check most 1 s.table);
+  parts = λ most. refl;
   stores = λ sts. refl;
   state = λ c ss. refl;
   plan = λ ss. refl;
+  overlay = λ ss. refl;
   a = λ ss. refl;
   b = λ ss. refl;
   table_a = refl;
@@ -141,6 +146,7 @@ of_phase base marks.Installing zero s (Some l) is below both = record {
   stores = λ sts. refl;
   state = λ c ss. refl;
   plan = λ ss. refl;
+  overlay = λ ss. refl;
   a = λ ss. refl;
   b = λ ss. refl;
   table_a = refl;
@@ -151,6 +157,7 @@ of_phase base marks.Installing (suc zero) s (Some l) is below both = record {
   stores = λ sts. refl;
   state = λ c ss. refl;
   plan = λ ss. refl;
+  overlay = λ ss. refl;
   a = λ ss. refl;
   b = λ ss. refl;
   table_a = refl;
@@ -161,6 +168,7 @@ of_phase base marks.Staged zero s (Some l) is below both = record {
   stores = λ sts. refl;
   state = λ c ss. refl;
   plan = λ ss. refl;
+  overlay = λ ss. refl;
   a = λ ss. refl;
   b = λ ss. refl;
   table_a = refl;
@@ -171,6 +179,7 @@ of_phase base marks.Staged (suc zero) s (Some l) is below both = record {
   stores = λ sts. refl;
   state = λ c ss. refl;
   plan = λ ss. refl;
+  overlay = λ ss. refl;
   a = λ ss. refl;
   b = λ ss. refl;
   table_a = refl;
@@ -181,6 +190,7 @@ of_phase base marks.Merging zero s None is below both = record {
   stores = λ sts. refl;
   state = λ c ss. refl;
   plan = λ ss. refl;
+  overlay = λ ss. refl;
   a = λ ss. refl;
   b = λ ss. refl;
   table_a = refl;
@@ -191,6 +201,7 @@ of_phase base marks.Merging (suc zero) s None is below both = record {
   stores = λ sts. refl;
   state = λ c ss. refl;
   plan = λ ss. refl;
+  overlay = λ ss. refl;
   a = λ ss. refl;
   b = λ ss. refl;
   table_a = refl;
@@ -272,10 +283,7 @@ no_tables size image m v ss c g f headed bad =
 
 -- the stores that are read
 abbrev pub stores_for : Frame → List PartStatus → List (Result Wanted StartFault)
-stores_for f sts =
-    stores_by (is_merging f.heads.mark.phase) (may_place f.heads.mark)
-    (through_slot f.heads.mark.phase f.heads.mark.slot)
-    (through_of f.heads.mark.phase f.tables.source f.tables.target) sts
+stores_for f sts = stores_at f.heads.mark f.tables.source f.tables.target sts
 
 module _
     (size : ℕ) (image : Image) (f : Frame)
@@ -398,14 +406,15 @@ slots_are f target scanned x planned is =
 -- the device that is kept of a reading
 pub kept_is : (d : Device) (t : Tables) (m : UpdateMark) (ss : List (Option PartStatus))
     (c : Control)
-    (g : Geometry) (target : Option (List Part)) (scanned : List Scanned)
+    (g : Geometry) (x : Stored) (scanned : List Scanned)
     → IsPhase m.phase
     → m.slot < 2
     → is_some t.target ≡ reads_both m.phase
-    → IsAssembled d m c g t.source.table target
-    → target ≡ through_parts m.phase m.slot t.source t.target scanned
+    → IsAssembled d m c g t.source.table x
+    → x.through ≡ through_parts m.phase m.slot t.source t.target scanned
+    → x.overlay ≡ overlay_by m t.source.table scanned
     → with_tables t d ≡ record (kept (read_of m ss c g (tables_of t) scanned)) { control = c }
-kept_is d t m ss c g target scanned phase below both is planned =
+kept_is d t m ss c g x scanned phase below both is planned overlaid =
     let of = of_phase m m.phase m.slot t.source t.target phase below both in
     let a = is.a ∙ ap (slot_parts m 0 t.source.table) planned ∙ of.a scanned in
     let b = is.b ∙ ap (slot_parts m 1 t.source.table) planned ∙ of.b scanned in
@@ -417,6 +426,7 @@ kept_is d t m ss c g target scanned phase below both is planned =
     is.plan
     ∙ ap (planned_by m.phase) planned
     ∙ of.plan scanned in
+    let overlay_is = is.overlay ∙ overlaid ∙ of.overlay scanned in
     (λ i. record {
       geometry = is.geometry i;
       control = is.control i;
@@ -428,6 +438,7 @@ kept_is d t m ss c g target scanned phase below both is planned =
       table_a = table_a i;
       table_b = table_b i;
       plan = plan_is i;
+      overlay = overlay_is i;
     })
 
 -- what is said of these parts is said of those of the device

@@ -5,6 +5,7 @@ pub mod FrameLaws
 pub mod MendLaws
 pub mod MigrateLaws
 pub mod OpenLaws
+pub mod OverlaidLaws
 pub mod PlanLaws
 pub mod ProbeLaws
 pub mod ReadLaws

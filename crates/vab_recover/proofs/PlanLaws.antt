@@ -85,6 +85,7 @@ by_store : (may : Bool) (first : ℕ) (name : List ℕ) (count : ℕ) (k : Chunk
       chunk = k;
       count = count;
       fewer = false;
+      clean = false;
     })
 by_store may first name count k part base store x None named stored is =
     absurd (let no : None ≡ Some store = stored in cc)
@@ -98,6 +99,7 @@ by_store may first name count k part base store x (Some q) named stored is =
       chunk = k;
       count = count;
       fewer = false;
+      clean = false;
     }))
 
 pub wanted_there : (may : Bool) (slot : ℕ) (l : Layout) (name : List ℕ) (count : ℕ) (k : Chunk)
@@ -111,6 +113,7 @@ pub wanted_there : (may : Bool) (slot : ℕ) (l : Layout) (name : List ℕ) (cou
       chunk = k;
       count = count;
       fewer = false;
+      clean = false;
     })
 wanted_there may slot l name count k base store are =
     by_store may l.device.first_logical_sector name count k are.part base store
@@ -127,7 +130,7 @@ sectors_within first cap size blocks on below =
     All-map (λ (s : ℕ). s + 8 ≤ size) (λ b. 4096 + first + 8 * b) blocks
     (λ k d lt. omega (arith, below k d lt, on))
 
-on_from : (xs : List ℕ) (size : ℕ) → All (λ s. s + 8 ≤ size) xs → IsOnDisk xs size
+pub on_from : (xs : List ℕ) (size : ℕ) → All (λ s. s + 8 ≤ size) xs → IsOnDisk xs size
 on_from [] size all i lt = absurd (omega (arith, lt))
 on_from (x ∷ xs) size all zero lt = All-head (λ s. s + 8 ≤ size) x xs all
 on_from (x ∷ xs) size all (suc i) lt =
@@ -202,6 +205,7 @@ wanted_store fewer name count k base store = record {
   chunk = k;
   count = count;
   fewer = fewer;
+  clean = false;
 }
 
 wanted_found : (fewer may : Bool) (slot : ℕ) (l : Layout) (name : List ℕ) (count : ℕ) (k : Chunk)

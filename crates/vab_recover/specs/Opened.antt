@@ -10,7 +10,7 @@ use Rattle.vab_bootctl.specs.Boot.{info_at}
 use Rattle.vab_marks.specs.declared.mark.MarkPhase.{MarkPhase}
 use Rattle.vab_marks.specs.declared.mark.MarkPhase.TheVariants as marks
 use Rattle.vab_marks.specs.declared.mark.UpdateMark.{UpdateMark}
-use Rattle.vab_marks.specs.Mark.{MayStandApart}
+use Rattle.vab_marks.specs.Mark.{FlagsFit, is_idle}
 use Rattle.vab_marks.specs.declared.version.MarkVersion.{MarkVersion}
 use Rattle.vab_marks.specs.declared.status.PartStatus.{PartStatus}
 use Rattle.vab_geometry.specs.declared.geometry.Geometry.{Geometry}
@@ -33,14 +33,17 @@ use Rattle.vab_device.specs.Kept.{lies_in, has_both, reads_both, IsPhase, copies
 use Rattle.vab_device.specs.Kept.{limits_of, parts_of}
 use Rattle.vab_device.specs.Phases.{phase_at, own_check, update_checks, plan_of, slot_checks}
 use Rattle.vab_device.specs.Phases.{are_ready, is_good, may_run, merging_check}
+use Rattle.vab_device.specs.Phases.{overlay_checks, overlay_wanted, overlay_of}
 use Rattle.vab_device.specs.Reading.{Read, mark_in, statuses_at, geometry_at, tables_in, kept}
 use Rattle.vab_device.specs.Reading.{control_kept, version_at}
 use Rattle.vab_device.specs.Reading.{Reads}
 use Rattle.vab_device.specs.Stores.{Wanted, Scanned, wanted_of, or_fewer, scans_in}
+use Rattle.vab_recover.specs.Overlay.{AreOverScanned}
 use Rattle.vab_recover.specs.Repairs.{IsLoadedAt}
 use Rattle.vab_recover.specs.Scans.{IsScanned}
 use Rattle.vab_recover.specs.declared.table.Tables.{Tables}
 use Rattle.vab_recover.specs.declared.frame.Frame.{Frame}
+use Rattle.vab_recover.specs.declared.stores.Stored.{Stored}
 
 -- ---- the phases
 
@@ -108,7 +111,7 @@ pub record AreHeads (size : ℕ) (m : UpdateMark) (c : Control) (g : Geometry) :
   pub enough : 4120 ≤ size
   pub phase : IsPhase m.phase
   pub slot : m.slot < 2
-  pub apart : MayStandApart m
+  pub flags : FlagsFit m
   pub control : Fits c
   pub geometry : IsGeometry g
   pub copies_on : copies_end g ≤ super_bytes size
@@ -159,7 +162,10 @@ pub record IsFramed (size : ℕ) (image : Image) (f : Frame) : Type 0 where
 -- the first fault of the tables and of their partitions, of which a slot may have so many
 abbrev pub fault_of : (most : ℕ) → UpdateMark → Table → Option Loaded → Option StartFault
 fault_of most m s None =
-    if is_merging m.phase then merging_check most m.slot s else own_check most m.slot s
+    if is_merging m.phase
+    then merging_check most m.slot s
+    else first_fault
+    (own_check most m.slot s ∷ overlay_checks m.overlaid m.slot (layout_of s))
 fault_of most m s (Some l) = first_fault (update_checks m.apart most m.slot s l.table)
 
 -- The table whose partitions are read through stores: that of an update's target, and while it is
@@ -222,6 +228,44 @@ pub record IsPlanRead
   pub read : modelled
       → scans_in (stores_by fewer may slot through (written_in statuses)) image ≡ Ok scanned
 
+-- ---- what is read through stores
+
+-- the images that are read: without an update that of the partition that is overlaid
+abbrev pub stores_at : UpdateMark
+    → Loaded
+    → Option Loaded
+    → List PartStatus
+    → List (Result Wanted StartFault)
+stores_at m s t statuses =
+    if is_idle m.phase
+    then overlay_wanted m.overlaid m.slot (layout_of s.table)
+    else stores_by (is_merging m.phase) (may_place m) (through_slot m.phase m.slot)
+    (through_of m.phase s t) statuses
+
+-- the partition that is overlaid, where there is no update
+abbrev pub overlay_by : UpdateMark → Table → List Scanned → Option Part
+overlay_by m s scanned =
+    if is_idle m.phase then overlay_of m.overlaid m.slot (layout_of s) scanned else None
+
+-- the partitions that are read through stores, and the one that is overlaid
+pub record AreStored
+    (modelled : Type 0)
+    (m : UpdateMark)
+    (s : Loaded)
+    (t : Option Loaded)
+    (statuses : List (Option PartStatus))
+    (image : Image)
+    (stored : Stored) : Type 0 where
+  pub scanned : List Scanned
+  pub through_is : stored.through
+      ≡ plan_by (through_slot m.phase m.slot) (through_of m.phase s t) scanned
+  pub overlay_is : stored.overlay ≡ overlay_by m s.table scanned
+  pub are : IfSome (through_of m.phase s t)
+      (λ l. All (IsScanned (through_slot m.phase m.slot) (layout_of l.table)) scanned)
+  pub over : is_idle m.phase ≡ true
+      → AreOverScanned m.overlaid m.slot (layout_of s.table) scanned
+  pub read : modelled → scans_in (stores_at m s t (written_in statuses)) image ≡ Ok scanned
+
 -- whether nothing more needs to be written, where these partitions are read through stores
 abbrev pub is_target_ready : Option (List Part) → Bool
 is_target_ready None = true
@@ -262,15 +306,16 @@ pub record IsAssembled
     (c : Control)
     (g : Geometry)
     (s : Table)
-    (through : Option (List Part)) : Type 0 where
+    (stored : Stored) : Type 0 where
   pub mark : d.mark ≡ m
   pub control : d.control ≡ c
   pub geometry : d.geometry ≡ g
   pub cap : d.cap ≡ cap_of (layout_of s).device
   pub groups : d.groups ≡ limits_of m.slot s.groups
-  pub a : d.a ≡ slot_parts m 0 s through
-  pub b : d.b ≡ slot_parts m 1 s through
-  pub plan : d.plan ≡ planned_by m.phase through
+  pub a : d.a ≡ slot_parts m 0 s stored.through
+  pub b : d.b ≡ slot_parts m 1 s stored.through
+  pub plan : d.plan ≡ planned_by m.phase stored.through
+  pub overlay : d.overlay ≡ stored.overlay
 
 -- ---- what is opened
 

@@ -2,7 +2,7 @@
 
 ghost use Rattle.std.specs.Prelude.{◌≡◌, ◌<◌, ◌≤◌, IfOk, IfErr, Err};
 ghost use Rattle.vab_disk.specs.Calls.{OnlyReads};
-ghost use Rattle.vab_marks.specs.Mark.{MayStandApart};
+ghost use Rattle.vab_marks.specs.Mark.{FlagsFit};
 ghost use Rattle.vab_device.specs.Faults.{IsOfContents};
 ghost use Rattle.vab_device.specs.Kept.{IsPhase};
 ghost use Rattle.vab_device.specs.Reading.{device};
@@ -51,7 +51,7 @@ fn read_marks<D: Disk>(d: &mut D) -> Result<(UpdateMark, MarkVersion, Statuses),
     ensures enough { IfOk result (λ r. 4120 ≤ D.size d.old) }
     ensures phase { IfOk result (λ r. IsPhase r.0.phase) }
     ensures slot { IfOk result (λ r. r.0.slot < 2) }
-    ensures apart { IfOk result (λ r. MayStandApart r.0) }
+    ensures apart { IfOk result (λ r. FlagsFit r.0) }
     ensures reads { OnlyReads D.Disk d.old d.new }
     ensures counts { CountsFaults D.Disk d.old d.new result }
 {

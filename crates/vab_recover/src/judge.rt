@@ -1,8 +1,8 @@
 //! The rules of tables, partitions and slots, and the device that is kept.
 
 ghost use Rattle.std.specs.Prelude.{◌≡◌, ◌<◌, ◌≤◌, ℕ, IfOk, OnOk, IfErr, OnErr, Err, ◌==◌};
-ghost use Rattle.std.specs.Prelude.{if◌then◌else◌, Some, None, IsNone, IfSome, true, [], ◌∷◌};
-ghost use Rattle.std.specs.Prelude.{length};
+ghost use Rattle.std.specs.Prelude.{if◌then◌else◌, Some, None, IsNone, IfSome, true, false, []};
+ghost use Rattle.std.specs.Prelude.{◌∷◌, length};
 ghost use Rattle.vab_tables.specs.Rules.{KeepsRules, IsPartition};
 ghost use Rattle.vab_layout.specs.Layout.{layout_of};
 ghost use Rattle.vab_layout.specs.Slots.{IsOwn};
@@ -21,8 +21,11 @@ ghost use Rattle.vab_device.specs.Kept.{AreOfUpdate, HasNoStores, has_both, has_
 ghost use Rattle.vab_device.specs.Kept.{parts_of};
 ghost use Rattle.vab_recover.specs.Opened.{fault_of, IsAssembled, is_merging, is_target_ready};
 ghost use Rattle.vab_recover.specs.Opened.{planned_by, slots_fault};
+ghost use Rattle.vab_recover.specs.Overlay.{KeepsOverlay};
 
+use crate::overlay::judge_overlay;
 use crate::read::{has_both, is_merging};
+use crate::stores::Stored;
 use crate::table::Tables;
 use std::alloc::Global;
 use vab_bootctl::{Control, Info};
@@ -280,17 +283,22 @@ fn judge_one(alloc: Global, table: &Table, mark: &UpdateMark, most: usize) -> Re
     ensures own { OnOk result (IsOwn mark.now.slot (layout_of table.now).parts) }
     ensures merging { OnOk result (is_merging mark.now.phase ≡ true
         → IsMerging mark.now.slot (layout_of table.now).parts) }
+    ensures overlay { OnOk result (is_merging mark.now.phase ≡ false
+        → KeepsOverlay mark.now.overlaid mark.now.slot (layout_of table.now)) }
     ensures kind { IfErr result (λ f. IsOfDisk f → ⊥) }
 {
     if is_merging(mark.phase) {
-        judge_merging(alloc, table, mark.slot, most)
-    } else {
-        judge_own(alloc, table, mark.slot, most)
+        return judge_merging(alloc, table, mark.slot, most);
+    }
+    match judge_own(alloc, table, mark.slot, most) {
+        Err(fault) => Err(fault),
+        Ok(()) => judge_overlay(alloc, table, mark),
     }
 }
 
 /// Whether the tables and the partitions keep the rules of a device with this mark, whose slots may
-/// have so many partitions. `BadTable` and `BadPartition` come exactly where they say.
+/// have so many partitions. `BadTable`, `BadPartition` and an overlay's `BadState` come exactly
+/// where they say.
 pub fn judge_parts(
     alloc: Global,
     tables: &Tables,
@@ -312,6 +320,9 @@ pub fn judge_parts(
     ensures merging { OnOk result (IsNone tables.now.target
         → is_merging mark.now.phase ≡ true
         → IsMerging mark.now.slot (layout_of tables.now.source.table).parts) }
+    ensures overlay { OnOk result (IsNone tables.now.target
+        → is_merging mark.now.phase ≡ false
+        → KeepsOverlay mark.now.overlaid mark.now.slot (layout_of tables.now.source.table)) }
     ensures kind { IfErr result (λ f. IsOfDisk f → ⊥) }
 {
     match &tables.target {
@@ -413,16 +424,17 @@ pub fn assemble(
     geometry: Geometry,
     control: Control,
     mark: UpdateMark,
-    through: Option<Listing<Part>>,
+    stored: Stored,
 ) -> Result<Device, StartFault>
     requires slot { mark.slot < 2 }
     requires keeps { KeepsRules table.now }
     requires own { IsOwn mark.slot (layout_of table.now).parts }
-    ensures is { IfOk result (λ d. IsAssembled d mark control geometry table.now through) }
+    ensures is { IfOk result (λ d. IsAssembled d mark control geometry table.now stored) }
     ensures fault { OnErr result (result ≡ Err StartFault.NoMemory) }
 {
     let groups = limits(alloc, table, mark.slot)?;
     let cap = table.devices.as_slice()[0].cap();
+    let Stored { through, overlay } = stored;
     let divided = divide(alloc, table, &mark, through)?;
     let Divided { own, other, plan } = divided;
     let (a, b) = by_slot(own, other, mark.slot);
@@ -437,5 +449,6 @@ pub fn assemble(
         table_a: None,
         table_b: None,
         plan,
+        overlay,
     })
 }

@@ -22,8 +22,8 @@ ghost use Rattle.vab_tidy.specs.Stays.{LeavesSame};
 
 use crate::frame::{Frame, Heads, read_heads};
 use crate::judge::{assemble, judge_parts, judge_slots};
-use crate::plan::read_plan;
 use crate::repairs::mend;
+use crate::stores::read_stores;
 use crate::table::{Tables, read_tables};
 use std::alloc::Global;
 use vab_device::{Device, StartFault};
@@ -55,9 +55,9 @@ fn finish<D: Disk>(alloc: Global, d: &mut D, frame: Frame) -> Result<(Device, Ta
     let Frame { heads, tables } = frame;
     match judge_parts(alloc, &tables, &heads.mark, heads.version.partitions()) {
         Err(fault) => Err(fault),
-        Ok(()) => match read_plan(alloc, d, &tables, &heads.statuses, &heads.mark) {
+        Ok(()) => match read_stores(alloc, d, &tables, &heads.statuses, &heads.mark) {
             Err(fault) => Err(fault),
-            Ok(through) => match judge_slots(&heads.control, &heads.mark, &through) {
+            Ok(stored) => match judge_slots(&heads.control, &heads.mark, &stored.through) {
                 Err(fault) => Err(fault),
                 Ok(()) => match assemble(
                     alloc,
@@ -65,7 +65,7 @@ fn finish<D: Disk>(alloc: Global, d: &mut D, frame: Frame) -> Result<(Device, Ta
                     heads.geometry,
                     heads.control,
                     heads.mark,
-                    through,
+                    stored,
                 ) {
                     Err(fault) => Err(fault),
                     Ok(device) => Ok((device, tables)),

@@ -83,7 +83,7 @@ fn is_long(fewer: bool, count: u64, n: u64) -> bool
 }
 
 // What a scan of the store of this name says, where there may be fewer exceptions or not.
-fn judge_scan(
+pub(crate) fn judge_scan(
     name: &Name36,
     count: u64,
     chunk: Chunk,
@@ -317,7 +317,7 @@ fn read_parts<D: Disk>(
 
 /// The partitions that are read through stores, with what these hold: those of an update's target,
 /// and while it is merged those of the mark's slot.
-pub fn read_plan<D: Disk>(
+pub(crate) fn read_plan<D: Disk>(
     alloc: Global,
     d: &mut D,
     tables: &Tables,

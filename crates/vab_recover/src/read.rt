@@ -3,7 +3,7 @@
 ghost use Rattle.std.specs.Prelude.{◌≡◌, ◌<◌, ◌≤◌, ◌^◌, Bool, IfOk, IfErr, Ok, Err};
 ghost use Rattle.vab_disk.specs.Calls.{OnlyReads};
 ghost use Rattle.vab_bootctl.specs.Control.{Fits, control_of};
-ghost use Rattle.vab_marks.specs.Mark.{mark_of, MayStandApart};
+ghost use Rattle.vab_marks.specs.Mark.{mark_of, FlagsFit};
 ghost use Rattle.vab_geometry.specs.Geometry.{IsGeometry};
 ghost use Rattle.vab_device.specs.Faults.{Answers, IsOfContents, IsOfDisk};
 ghost use Rattle.vab_device.specs.Kept.{copies_end, super_bytes, has_both, reads_both, IsPhase};
@@ -99,10 +99,13 @@ fn known_mark(sector: &[u8; 512]) -> Result<UpdateMark, StartFault>
     ensures kind { IfErr result IsOfContents }
     ensures phase { IfOk result (λ m. IsPhase m.phase) }
     ensures slot { IfOk result (λ m. m.slot < 2) }
-    ensures apart { IfOk result MayStandApart }
+    ensures apart { IfOk result FlagsFit }
 {
     match decode_mark(sector) {
-        Ok(mark) => Ok(mark.with_phase(settled(mark.phase))),
+        Ok(mark) => Ok(UpdateMark {
+            phase: settled(mark.phase),
+            ..mark
+        }),
         Err(_) => Err(StartFault::BadMark(MARK_SECTOR)),
     }
 }
@@ -115,7 +118,7 @@ pub fn read_mark<D: Disk>(d: &mut D) -> Result<UpdateMark, StartFault>
     ensures named { IfErr result IsNamed }
     ensures phase { IfOk result (λ m. IsPhase m.phase) }
     ensures slot { IfOk result (λ m. m.slot < 2) }
-    ensures apart { IfOk result MayStandApart }
+    ensures apart { IfOk result FlagsFit }
     ensures reads { OnlyReads D.Disk d.old d.new }
     ensures counts { CountsFaults D.Disk d.old d.new result }
 {

@@ -12,10 +12,10 @@ use Rattle.vab_model.specs.declared.state.Phase.{Phase}
 use Rattle.vab_model.specs.declared.state.Phase.TheVariants.{Idle, Installing, Staged, Merging}
 use Rattle.vab_model.specs.declared.command.Refusal.TheVariants.{NotIdle}
 use Rattle.vab_model.specs.Commands.{Command, Begin, Factory, Finish, SetActive, Merge, UpdateSuper}
-use Rattle.vab_model.specs.Effects.{Effect, IsOneOf, refuses, last_of, after_of}
+use Rattle.vab_model.specs.Effects.{Effect, IsOneOf, refuses, if_plain, last_of, after_of}
 use Rattle.vab_model.specs.Kinds.{is_of_installation, ends_alone, turns_of}
 use Rattle.vab_device.specs.Mounted.{Mounted}
-use Rattle.vab_device.specs.Updates.{effect_on, begin_effect, finish_effect}
+use Rattle.vab_device.specs.Updates.{effect_on, begin_effect, finish_effect, update_super}
 use Rattle.vab_fbproto.specs.Requests.{Asked, Do}
 use Rattle.vab_fbproto.specs.Requests.{request_of}
 use Rattle.vab_fbproto.specs.declared.request.BadCommand.{BadCommand}
@@ -29,6 +29,7 @@ use Rattle.vab_session.specs.Alone.{IsAlone}
 use Rattle.vab_session.specs.Responses.{response, turns_between, machine}
 use Rattle.vab_session.specs.Served.{nothing_staged}
 use Rattle.vab_session.proofs.AloneLaws.{asks_end, alone_effect, last_alone, item_alone}
+use Rattle.vab_session.proofs.OverlayLaws.{if_either}
 use Rattle.vab_session.proofs.WipeLaws.{wipe_refused}
 use Rattle.vab_update.specs.Install.{image_orders, order}
 use Rattle.vab_update.specs.Orders.{Order, effect_all, followed}
@@ -62,6 +63,15 @@ begin_refused : (m : Mounted) (apart : Bool) (phase : Phase)
 begin_refused m apart (Merging target still) is = refl
 begin_refused m apart _ is = absurd is
 
+-- with an overlay it is refused so too
+plain_refused : (m : Mounted) (apart : Bool)
+    → IsUnderWay m.state.phase
+    → if_plain m.state.overlay (begin_effect m apart m.state.phase) ≡ refuses NotIdle
+plain_refused m apart is =
+    let e : Effect Mounted = begin_effect m apart m.state.phase in
+    if_either (λ (f : Effect Mounted). f ≡ refuses NotIdle) m.state.overlay e refl
+    (begin_refused m apart m.state.phase is)
+
 finish_none : (m : Mounted) (phase : Phase) → IsUnderWay phase → (finish_effect m phase).later ≡ []
 finish_none m (Merging target still) is = refl
 finish_none m _ is = absurd is
@@ -79,12 +89,14 @@ refused_none : (m : Mounted) (staged : Option (List ℕ)) (c : Command)
     → IsUnderWay m.state.phase
     → (effect_on m staged c).later ≡ []
 refused_none m staged Begin of is =
-    ap (λ (e : Effect Mounted). e.later) (begin_refused m false m.state.phase is)
+    ap (λ (e : Effect Mounted). e.later) (plain_refused m false is)
 refused_none m staged Factory of is =
-    ap (λ (e : Effect Mounted). e.later) (begin_refused m true m.state.phase is)
+    ap (λ (e : Effect Mounted). e.later) (plain_refused m true is)
 refused_none m staged Finish of is = finish_none m m.state.phase is
 refused_none m staged UpdateSuper of is =
-    wipe_refused m m.state.control.current staged m.state.phase (not_idle m.state.phase is)
+    let slot : ℕ = m.state.control.current in
+    if_either (λ e. e.later ≡ []) m.state.overlay (update_super m slot staged m.state.phase) refl
+    (wipe_refused m slot staged m.state.phase (not_idle m.state.phase is))
 refused_none m staged _ of is = absurd cc
 
 no_turns : (c : Command) → is_refused c ≡ true → turns_of c ≡ 0
@@ -134,7 +146,7 @@ install_refused m set is =
     ∷ order (SetActive (other_slot source))
     ∷ [] in
     ap (λ (e : Effect Mounted). followed e (effect_all rest (after_of m e)))
-    (begin_refused m false m.state.phase is)
+    (plain_refused m false is)
 
 -- and a life ends there
 life_items : (m : Mounted) (made : List ℕ) (next : List SetImage)

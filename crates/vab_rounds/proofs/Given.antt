@@ -21,7 +21,9 @@ use Rattle.vab_model.specs.declared.command.Refusal.TheVariants as refusals
 use Rattle.vab_model.specs.declared.command.Reply.TheVariants as replies
 use Rattle.vab_model.specs.Commands.{Command, SetActive, Boot, Mark, Print, Digest, Begin, Create}
 use Rattle.vab_model.specs.Commands.{Resize, Delete, Snapshot, Flash, Finish, Cancel, BeginMerge}
-use Rattle.vab_model.specs.Commands.{Merge, Factory, UpdateSuper}
+use Rattle.vab_model.specs.Commands.{Merge, Factory, UpdateSuper, Overlay, OverlayWrite}
+use Rattle.vab_model.specs.Commands.{OverlayDiscard}
+use Rattle.vab_model.specs.declared.state.Overlay.{Overlay as OverlayOf}
 use Rattle.vab_model.specs.State.{images_at, has_images, with_control}
 use Rattle.vab_model.specs.Effects.{Effect, Found, Image_is, Refused_by, found_of, print_effect}
 use Rattle.vab_model.specs.Effects.{digest_effect, active_effect, effect_map, IsOneOf}
@@ -36,12 +38,14 @@ use Rattle.vab_device.specs.Updates.{no_guard, settled_guard, store_guard, creat
 use Rattle.vab_device.specs.Updates.{resize_edit, delete_edit, snapshot_edit}
 use Rattle.vab_device.specs.Updates.{cancelled, cancel_effect, begin_merge_effect, merge_effect}
 use Rattle.vab_device.specs.Updates.{in_places, with_layout, merging_from, finish_effect}
-use Rattle.vab_device.specs.Updates.{complete_effect}
+use Rattle.vab_device.specs.Updates.{complete_effect, update_super}
 use Rattle.vab_device.proofs.FlashedLaws.{flash_by_blocks}
 use Rattle.vab_session.specs.Alone.{IsAlone, Finds}
 use Rattle.vab_session.specs.Source.{IsStagedFrom, IsMergedFrom}
 use Rattle.vab_session.proofs.SourceLaws.{still_has, still_none}
 use Rattle.vab_session.proofs.SourceLaws as source
+use Rattle.vab_session.proofs.OverlayLaws.{if_either, over, overlay_makes, write_makes}
+use Rattle.vab_session.proofs.OverlayLaws.{discard_makes}
 use Rattle.vab_session.proofs.UntilLaws as until
 use Rattle.vab_session.proofs.WipeLaws.{not_wiped, wipe_refused}
 use Rattle.vab_rounds.specs.Rounds.{items_in}
@@ -243,10 +247,19 @@ module _ (slot : ℕ) (images : List ImageOfSlot) where
       → IsReadyFor slot images m
       → Makes m (effect_on m staged UpdateSuper).later
   wipes m staged is =
-      subst (λ (l : List Mounted). Makes m l)
+      if_either (λ e. Makes m e.later) m.state.overlay
+      (update_super m m.state.control.current staged m.state.phase) (nothing m (inl is))
+      (subst (λ (l : List Mounted). Makes m l)
       (sym (wipe_refused m m.state.control.current staged m.state.phase
       (not_idle m.state.phase is.ready)))
-      (nothing m (inl is))
+      (nothing m (inl is)))
+
+  with_over : (m : Mounted) (o : Option OverlayOf)
+      → IsReadyFor slot images m
+      → Makes m (over m o ∷ [])
+  with_over m o is =
+      one m (over m o) (inl is)
+      (inl (record { below = is.below; runs = is.runs; has = is.has; ready = is.ready }))
 
   -- dropped: the target has no images any more
   dropped : (m : Mounted) (from : ℕ)
@@ -338,8 +351,12 @@ module _ (slot : ℕ) (images : List ImageOfSlot) where
       (subst (λ (k : ℕ). k < 2) (sym (marked_current m.state.control)) is.runs) is)
   ready_makes m staged (Print name) is = prints m name (found_of m.state name) is
   ready_makes m staged (Digest name) is = digests m (found_of m.state name) is
-  ready_makes m staged Begin is = begins m false m.state.phase is.ready is
-  ready_makes m staged Factory is = begins m true m.state.phase is.ready is
+  ready_makes m staged Begin is =
+      if_either (λ e. Makes m e.later) m.state.overlay (begin_effect m false m.state.phase)
+      (nothing m (inl is)) (begins m false m.state.phase is.ready is)
+  ready_makes m staged Factory is =
+      if_either (λ e. Makes m e.later) m.state.overlay (begin_effect m true m.state.phase)
+      (nothing m (inl is)) (begins m true m.state.phase is.ready is)
   ready_makes m staged (Create name size) is =
       edits m no_guard (create_edit name size) m.state.phase is.ready is
   ready_makes m staged (Resize name size) is =
@@ -358,6 +375,12 @@ module _ (slot : ℕ) (images : List ImageOfSlot) where
   ready_makes m staged BeginMerge is = merge_begins m m.state.phase is.ready is
   ready_makes m staged (Merge blocks) is = merges m blocks m.state.phase is.ready is
   ready_makes m staged UpdateSuper is = wipes m staged is
+  ready_makes m staged (Overlay name size) is =
+      overlay_makes m (Makes m) (nothing m (inl is)) (λ o. with_over m o is) staged name size
+  ready_makes m staged (OverlayWrite block) is =
+      write_makes m (Makes m) (nothing m (inl is)) (λ o. with_over m o is) staged block
+  ready_makes m staged OverlayDiscard is =
+      discard_makes m (Makes m) (nothing m (inl is)) (λ o. with_over m o is) staged
 
   commands : (m : Mounted) (staged : Option (List ℕ)) (c : Command)
       → Stands m

@@ -13,7 +13,7 @@ use Rattle.vab_model.specs.declared.state.Phase.{Phase}
 use Rattle.vab_model.specs.declared.state.Phase.TheVariants.{Idle, Installing, Staged, Merging}
 use Rattle.vab_model.specs.Commands.{Command, SetActive, Boot, Mark, Print, Digest, Create}
 use Rattle.vab_model.specs.Commands.{Resize, Delete, Snapshot, Flash, Cancel, BeginMerge}
-use Rattle.vab_model.specs.Commands.{Merge, UpdateSuper}
+use Rattle.vab_model.specs.Commands.{Merge, UpdateSuper, Overlay, OverlayWrite, OverlayDiscard}
 use Rattle.vab_model.specs.State.{images_at}
 use Rattle.vab_model.specs.Effects.{Effect, Found, Image_is, Refused_by, found_of, print_effect}
 use Rattle.vab_model.specs.Effects.{digest_effect, active_effect, effect_map, IsOneOf}
@@ -28,6 +28,7 @@ use Rattle.vab_device.specs.Updates.{effect_on, EditOf, Guard, edit_effect, no_g
 use Rattle.vab_device.specs.Updates.{settled_guard, store_guard, create_edit, resize_edit}
 use Rattle.vab_device.specs.Updates.{delete_edit, snapshot_edit, cancel_effect}
 use Rattle.vab_device.specs.Updates.{begin_merge_effect, merge_effect, turns, merged_to, wiped}
+use Rattle.vab_device.specs.Updates.{update_super}
 use Rattle.vab_device.proofs.FlashedLaws.{flash_by_blocks}
 use Rattle.vab_fbproto.specs.Requests.{Asked, Getvar, Download, Do, MergeAll, BootAndEnd}
 use Rattle.vab_fbproto.specs.Requests.{request_of}
@@ -43,6 +44,7 @@ use Rattle.vab_session.specs.Alone.{IsAlone, IsReady, IsWiped, IsEnded, Finds}
 use Rattle.vab_session.specs.Responses.{response, left_of, turns_between, machine}
 use Rattle.vab_session.specs.Served.{nothing_staged}
 use Rattle.vab_session.proofs.AloneLaws.{AreAlone, alone_effect, last_alone}
+use Rattle.vab_session.proofs.OverlayLaws.{if_either, overlay_makes, write_makes, discard_makes}
 use Rattle.vab_session.proofs.StandLaws as stand
 use Rattle.vab_session.proofs.WipeLaws.{wipe_comes, wiped_stays}
 use Rattle.vab_rounds.specs.Rounds.{Run, Serves, Carries, Installs, Tells, Lives, items_in}
@@ -199,13 +201,15 @@ module _ (left : ℕ) where
       → AreDue asked (effect_on m staged UpdateSuper).later
   wipes asked m staged is =
       let slot : ℕ = m.state.control.current in
-      elim (wipe_comes m slot staged m.state.phase) [
+      if_either (λ e. AreDue asked e.later) m.state.overlay
+      (update_super m slot staged m.state.phase) (none asked)
+      (elim (wipe_comes m slot staged m.state.phase) [
         | inl refused ↦ subst (AreDue asked) (sym refused.none) (none asked)
         | inr done ↦
             subst (AreDue asked) (sym done.one)
             (one asked (wiped m slot done.image)
             (subst (IsDue left asked) (sym (wiped_stays m.state done.image slot).phase) is))
-      ]
+      ])
 
   pub command_steps : (asked : ℕ) (m : Mounted) (staged : Option (List ℕ)) (c : Command)
       → is_of_installation c ≡ false
@@ -236,6 +240,12 @@ module _ (left : ℕ) where
   command_steps asked m staged BeginMerge other is = merge_begins asked m m.state.phase is
   command_steps asked m staged (Merge blocks) other is = merges asked m blocks m.state.phase is
   command_steps asked m staged UpdateSuper other is = wipes asked m staged is
+  command_steps asked m staged (Overlay name size) other is =
+      overlay_makes m (AreDue asked) (none asked) (λ o. one asked _ is) staged name size
+  command_steps asked m staged (OverlayWrite block) other is =
+      write_makes m (AreDue asked) (none asked) (λ o. one asked _ is) staged block
+  command_steps asked m staged OverlayDiscard other is =
+      discard_makes m (AreDue asked) (none asked) (λ o. one asked _ is) staged
   command_steps asked m staged _ other is = absurd cc
 
   -- a command that asks for no turn

@@ -1,7 +1,9 @@
-//! Reading the exceptions of a store.
+//! Reading the exceptions of a store, and whether they end clean.
 #![tactic(auto)]
 
+mod clean;
 mod list;
 mod reading;
 
+pub use clean::ends_clean;
 pub use reading::scan;

@@ -29,7 +29,9 @@ use Rattle.vab_model.specs.declared.command.Refusal.TheVariants as refusals
 use Rattle.vab_model.specs.declared.command.Reply.TheVariants as replies
 use Rattle.vab_model.specs.Commands.{Command, SetActive, Boot, Mark, Print, Digest, Begin, Create}
 use Rattle.vab_model.specs.Commands.{Resize, Delete, Snapshot, Flash, Finish, Cancel, BeginMerge}
-use Rattle.vab_model.specs.Commands.{Merge, Factory, UpdateSuper}
+use Rattle.vab_model.specs.Commands.{Merge, Factory, UpdateSuper, Overlay, OverlayWrite}
+use Rattle.vab_model.specs.Commands.{OverlayDiscard}
+use Rattle.vab_model.specs.declared.state.Overlay.{Overlay as OverlayOf}
 use Rattle.vab_model.specs.State.{images_at, has_images, with_control}
 use Rattle.vab_model.specs.Effects.{Effect, Found, Image_is, Refused_by, found_of, print_effect}
 use Rattle.vab_model.specs.Effects.{digest_effect, active_effect, effect_map, IsOneOf}
@@ -61,6 +63,8 @@ use Rattle.vab_device.proofs.FlashedLaws.{flash_by_blocks}
 use Rattle.vab_model.specs.Kinds.{ends_alone}
 use Rattle.vab_session.specs.Alone.{IsUnready, IsAlone, BootsTo, StandsAlone}
 use Rattle.vab_session.specs.Responses.{response, left_of}
+use Rattle.vab_session.proofs.OverlayLaws.{if_either, over, overlay_makes, write_makes}
+use Rattle.vab_session.proofs.OverlayLaws.{discard_makes}
 use Rattle.vab_bootctl.proofs.BootLaws.{activated_current, marked_current}
 
 -- a packet that ends an installation, or wipes the slot
@@ -422,6 +426,19 @@ module _ (slot : ℕ) (images : List ImageOfSlot) where
       (chosen_of m.state.control (has_images m.state)) refl ∙ sym is.current)
       is
 
+  -- ---- an overlay
+
+  with_over : (m : Mounted) (o : Option OverlayOf)
+      → IsAlone slot images m
+      → IsAlone slot images (over m o)
+  with_over m o is = record {
+    below = is.below;
+    current = is.current;
+    has = is.has;
+    other = is.other;
+    unready = is.unready;
+  }
+
   -- What each command but the end of an installation and a wipe makes of it.
   pub alone_effect : (m : Mounted) (staged : Option (List ℕ)) (c : Command)
       → ends_alone c ≡ false
@@ -435,8 +452,12 @@ module _ (slot : ℕ) (images : List ImageOfSlot) where
   alone_effect m staged Mark other is = one _ (with_boot m _ (marked_current m.state.control) is)
   alone_effect m staged (Print name) other is = prints m name (found_of m.state name)
   alone_effect m staged (Digest name) other is = digests m (found_of m.state name)
-  alone_effect m staged Begin other is = begins m false m.state.phase is
-  alone_effect m staged Factory other is = begins m true m.state.phase is
+  alone_effect m staged Begin other is =
+      if_either (λ e. AreAlone e.later) m.state.overlay (begin_effect m false m.state.phase) none
+      (begins m false m.state.phase is)
+  alone_effect m staged Factory other is =
+      if_either (λ e. AreAlone e.later) m.state.overlay (begin_effect m true m.state.phase) none
+      (begins m true m.state.phase is)
   alone_effect m staged (Create name size) other is =
       edits m no_guard (create_edit name size) m.state.phase is.unready is
   alone_effect m staged (Resize name size) other is =
@@ -455,6 +476,12 @@ module _ (slot : ℕ) (images : List ImageOfSlot) where
   alone_effect m staged BeginMerge other is = merge_begins m m.state.phase is.unready
   alone_effect m staged (Merge blocks) other is = merges m blocks m.state.phase is.unready is
   alone_effect m staged UpdateSuper other is = absurd cc
+  alone_effect m staged (Overlay name size) other is =
+      overlay_makes m AreAlone none (λ o. one _ (with_over m o is)) staged name size
+  alone_effect m staged (OverlayWrite block) other is =
+      write_makes m AreAlone none (λ o. one _ (with_over m o is)) staged block
+  alone_effect m staged OverlayDiscard other is =
+      discard_makes m AreAlone none (λ o. one _ (with_over m o is)) staged
 
   -- ---- packets
 

@@ -1,4 +1,5 @@
 pub mod AloneLaws
+pub mod OverlayLaws
 pub mod SourceLaws
 pub mod StandLaws
 pub mod UntilLaws

@@ -9,7 +9,8 @@ use Rattle.vab_model.specs.declared.command.Reply.{Reply}
 use Rattle.vab_model.specs.declared.command.Reply.TheVariants as replies
 use Rattle.vab_model.specs.Commands.{Command, Boot, Merge, UpdateSuper}
 use Rattle.vab_device.specs.Mounted.{Mounted}
-use Rattle.vab_device.specs.Updates.{effect_on}
+use Rattle.vab_device.specs.Updates.{effect_on, update_super}
+use Rattle.vab_session.proofs.OverlayLaws.{if_either}
 use Rattle.vab_device.proofs.WantLaws.{is_wanted, wants_told}
 use Rattle.vab_fbproto.specs.Requests.{Asked, Getvar, Download, Do, MergeAll, BootAndEnd}
 use Rattle.vab_fbproto.specs.Texts.{share, refusal_text, reply_text}
@@ -98,12 +99,14 @@ short_wipe : (m : Mounted) (staged : Option (List ℕ))
     → IsShort (effect_on m staged UpdateSuper).reply
 short_wipe m staged =
     let slot : ℕ = m.state.control.current in
-    elim (wipe_comes m slot staged m.state.phase) [
+    if_either (λ e. IsShort e.reply) m.state.overlay (update_super m slot staged m.state.phase)
+    (short_refusal slot staged refusals.NotIdle tt)
+    (elim (wipe_comes m slot staged m.state.phase) [
       | inl refused ↦
           subst IsShort (sym refused.told)
           (short_refusal slot staged refused.refusal refused.why)
       | inr done ↦ subst IsShort (sym done.told) (short_reply replies.Done refl)
-    ]
+    ])
 
 -- ---- none is told as want of memory
 
@@ -148,12 +151,14 @@ other_wipe : (m : Mounted) (staged : Option (List ℕ))
     → IsOther (effect_on m staged UpdateSuper).reply
 other_wipe m staged =
     let slot : ℕ = m.state.control.current in
-    elim (wipe_comes m slot staged m.state.phase) [
+    if_either (λ e. IsOther e.reply) m.state.overlay (update_super m slot staged m.state.phase)
+    (other_refusal slot staged refusals.NotIdle tt)
+    (elim (wipe_comes m slot staged m.state.phase) [
       | inl refused ↦
           subst IsOther (sym refused.told)
           (other_refusal slot staged refused.refusal refused.why)
       | inr done ↦ subst IsOther (sym done.told) (other_reply replies.Done refl)
-    ]
+    ])
 
 -- ---- responses
 

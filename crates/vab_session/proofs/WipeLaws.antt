@@ -33,6 +33,7 @@ use Rattle.vab_model.specs.Wipe.{filled_refusal, judged_effect, staged_effect}
 use Rattle.vab_device.specs.Mounted.{Mounted}
 use Rattle.vab_device.specs.Updates.{effect_on, update_super, other_super, full_super, is_geometry}
 use Rattle.vab_device.specs.Updates.{has_device, layout_at, wiped}
+use Rattle.vab_session.proofs.OverlayLaws.{if_either}
 use Rattle.vab_session.specs.Alone.{IsAlone, IsUnready, IsWiped, is_image, same_images}
 use Rattle.vab_session.proofs.UntilLaws as until
 
@@ -347,7 +348,10 @@ module _ (Stops Stands : Mounted → Type 0) (apart : (m : Mounted) → Stands m
       → IsAlone slot images m
       → Makes m (effect_on m staged UpdateSuper).later
   wipe_makes m staged alone =
-      subst (λ (n : ℕ). Makes m (update_super m n staged m.state.phase).later) (sym alone.current)
+      if_either (λ e. Makes m e.later) m.state.overlay
+      (update_super m m.state.control.current staged m.state.phase)
+      (until.made_nothing Stops Stands apart m (stands m alone))
+      (subst (λ (n : ℕ). Makes m (update_super m n staged m.state.phase).later) (sym alone.current)
       (elim (wipe_comes m slot staged m.state.phase) [
         | inl refused ↦
             subst (λ (l : List Mounted). Makes m l) (sym refused.none)
@@ -355,4 +359,4 @@ module _ (Stops Stands : Mounted → Type 0) (apart : (m : Mounted) → Stands m
         | inr done ↦
             subst (λ (l : List Mounted). Makes m l) (sym done.one)
             (wipe_made m done.image alone)
-      ])
+      ]))

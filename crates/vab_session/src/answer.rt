@@ -77,7 +77,8 @@ fn bytes_of(staged: &Option<Vec<u8>>) -> Option<&[u8]>
     }
 }
 
-// Whether a command has used up the staged bytes: a flash or a wipe that is done.
+// Whether a command has used up the staged bytes: a flash, a wipe or a block of an overlay that is
+// done.
 #[tactic(auto, unfolding(crate::specs::Responses::takes_staged))]
 fn takes_staged(command: &Command, reply: &Reply) -> bool
     ensures { result ≡ takes_staged (command_of command.now) reply.now }
@@ -85,6 +86,7 @@ fn takes_staged(command: &Command, reply: &Reply) -> bool
     match (command, reply) {
         (Command::Flash(_, _), Reply::Done) => true,
         (Command::UpdateSuper, Reply::Done) => true,
+        (Command::OverlayWrite(_), Reply::Done) => true,
         _ => false,
     }
 }

@@ -7,4 +7,6 @@ mod earlier;
 #[cfg(test)]
 mod life;
 #[cfg(test)]
+mod overlays;
+#[cfg(test)]
 mod stops;

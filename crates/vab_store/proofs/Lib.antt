@@ -1,5 +1,6 @@
 pub mod BlockLaws
 pub mod ChunkLaws
+pub mod CleanLaws
 pub mod FreeLaws
 pub mod IndexLaws
 pub mod PartLaws

@@ -5,8 +5,6 @@ use Rattle.vab_exceptions.specs.declared.area.Exception.{Exception}
 use Rattle.vab_store.specs.declared.index.Key.{Key}
 use Rattle.vab_store.specs.declared.index.Key.TheVariants.{Old, New}
 use Rattle.vab_store.specs.declared.index.Place.{Place}
-use Rattle.vab_space.specs.declared.Chunk.{Chunk}
-use Rattle.vab_space.specs.Chunks.{new_chunk_of}
 use Rattle.vab_store.specs.View.{exception_at}
 
 abbrev pub place_at : List Place → ℕ → Place
@@ -120,11 +118,3 @@ pub record IsRank (ps : List Place) (key n : ℕ) : Type 0 where
   pub within : n ≤ length ps
   pub below : (i : ℕ) → i < n → (place_at ps i).key < key
   pub rest : (i : ℕ) → n ≤ i → i < length ps → key ≤ (place_at ps i).key
-
--- the first of the data chunks in their order that isn't the key of its place
-pub record IsFirstGap (k : Chunk) (ps : List Place) (chunk : ℕ) : Type 0 where
-  pub index : ℕ
-  pub within : index ≤ length ps
-  pub chunk_is : chunk ≡ new_chunk_of k index
-  pub so_far : (i : ℕ) → i < index → (place_at ps i).key ≡ new_chunk_of k i
-  pub here : index < length ps → (place_at ps index).key ≢ new_chunk_of k index

@@ -1,4 +1,6 @@
 pub mod Answers
+pub mod Clean
+pub mod Free
 pub mod Index
 pub mod Layout
 pub mod Reached

@@ -4,7 +4,7 @@ ghost use Rattle.std.specs.Prelude.{◌≡◌, ℕ, ◌+◌, ◌-◌, ◌*◌, �
 ghost use Rattle.std.specs.Prelude.{MatchOption, IsTrue, ◌↔◌};
 ghost use Rattle.vab_store.specs.Index.{place_at, Ascends, HasPlace, HoldsPlace, LacksKey, key_of};
 ghost use Rattle.vab_store.specs.Index.{IsSortedBy, IsSooner, TellsTie, TellsRepeat, earlier_of};
-ghost use Rattle.vab_store.specs.Index.{IsRank, IsFirstGap};
+ghost use Rattle.vab_store.specs.Index.{IsRank};
 
 use crate::Steps;
 use std::alloc::Global;
@@ -12,7 +12,6 @@ use std::cmp::Ordering;
 use std::sync::ledger::Ledger;
 use vab_disk::NoMemory;
 use vab_exceptions::Exception;
-use vab_space::Chunk;
 
 /// What exceptions are sorted by.
 #[derive(Clone, Copy, Debug, PartialEq, Eq)]
@@ -153,18 +152,4 @@ pub(crate) fn earlier(a: Option<(u64, u64)>, b: Option<(u64, u64)>) -> Option<(u
             }
         }
     }
-}
-
-/// The first of the data chunks in their order that isn't the key of its place.
-pub(crate) fn first_gap(places: &[Place], chunk: Chunk) -> u64
-    requires { length places.now < 2 ^ 62 }
-    ensures { IsFirstGap chunk places.now result }
-{
-    for (j, place) in places.iter().enumerate() {
-        let data = chunk.new_chunk(j as u64);
-        if place.key != data {
-            return data;
-        }
-    }
-    chunk.new_chunk(places.len() as u64)
 }

@@ -6,6 +6,7 @@
 #![tactic(auto)]
 
 mod fault;
+mod free;
 mod index;
 mod steps;
 mod view;

@@ -9,8 +9,9 @@ ghost use Rattle.vab_store.specs.Setting.{entry_place, set_entry, HaveData, IsLo
 ghost use Rattle.vab_store.specs.View.{exception_at, view_of};
 ghost use Rattle.vab_store.specs.Writing.{planned_of};
 
+use crate::free::{first_clear, taken_chunks};
 use crate::index::{
-    Key, Place, earlier, first_gap, first_tie, index_of, place_of, rank_of, repeat_by, sorted_by,
+    Key, Place, earlier, first_tie, index_of, place_of, rank_of, repeat_by, sorted_by,
 };
 use crate::writer::planned;
 use crate::{Steps, StoreFault};
@@ -172,16 +173,16 @@ impl StoreView {
         Ok(StoreView { items, index })
     }
 
-    /// The lowest data chunk that no exception has. So few are taken before it that as many
-    /// exceptions have them.
+    /// The lowest data chunk that no exception has. It is at most the chunk that a writer gives the
+    /// next exception.
     pub fn free_chunk(&self, chunk: Chunk) -> Result<u64, NoMemory>
         requires small { length self.now < 2 ^ 62 }
         requires chunks { HaveData chunk self.now }
         ensures lowest { IfOk result (IsLowestFree chunk self.now) }
         ensures most { IfOk result (λ c. c ≤ new_chunk_of chunk (length self.now)) }
     {
-        let places = sorted_by(*self.items.allocator(), &self.items, Key::New)?;
-        Ok(first_gap(&places, chunk))
+        let taken = taken_chunks(*self.items.allocator(), &self.items, chunk)?;
+        Ok(chunk.new_chunk(first_clear(&taken) as u64))
     }
 
     /// Drops the last exception.

@@ -3,6 +3,8 @@
 #![tactic(auto)]
 
 #[cfg(test)]
+mod clean;
+#[cfg(test)]
 mod cuts;
 #[cfg(test)]
 mod overlay;

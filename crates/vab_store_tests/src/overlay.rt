@@ -81,8 +81,8 @@ fn entries(alloc: Global, d: &mut MemPort, pair: &Pair) -> Result<Vec<(u64, u64)
     Ok(found)
 }
 
-// A store with these exceptions, which ascend. Their blocks are filled with 7.
-fn written(alloc: Global, pair: &Pair, olds: &[u64]) -> Result<MemPort, Fail>
+/// A store with these exceptions, which ascend. Their blocks are filled with 7.
+pub(crate) fn written(alloc: Global, pair: &Pair, olds: &[u64]) -> Result<MemPort, Fail>
     requires { IsStrictlyIncreasing olds.now }
 {
     let mut d = pair.disk(alloc)?;

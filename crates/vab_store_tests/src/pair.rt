@@ -10,7 +10,7 @@ use vab_disk::{Disk, MemPort};
 use vab_gate::settle;
 use vab_linear::Map;
 use vab_merge::{Ran, run_turn};
-use vab_scan::scan;
+use vab_scan::{ends_clean, scan};
 use vab_snapread::read_block;
 use vab_space::{Chunk, need_at};
 use vab_store::{StoreFault, StoreView, write_store};
@@ -119,6 +119,14 @@ impl Pair {
             return None;
         }
         scan(alloc, d, &self.store, self.blocks, self.chunk).ok()
+    }
+
+    /// Whether a list of so many exceptions ends clean, of a store with chunks of one block.
+    pub(crate) fn ends_clean(&self, d: &mut MemPort, count: u64) -> Option<bool> {
+        if !self.lies_on(d) || count > self.room || need_at(count, Chunk::One) > self.room {
+            return None;
+        }
+        ends_clean(d, &self.store, count).ok()
     }
 
     /// What is wrong with the store, where it lies on the disk.

@@ -12,8 +12,7 @@ use Rattle.vab_device.specs.declared.fault.StartFault.{StartFault}
 use Rattle.vab_device.specs.Phases.{phase_at}
 use Rattle.vab_device.specs.Stores.{scans_in}
 use Rattle.vab_device.specs.Reading.{mark_in, statuses_at, control_in, geometry_at, tables_in}
-use Rattle.vab_recover.specs.Opened.{reads_statuses, tables_of, fault_of, is_merging}
-use Rattle.vab_recover.specs.Opened.{through_of, through_slot, stores_by, may_place}
+use Rattle.vab_recover.specs.Opened.{reads_statuses, tables_of, fault_of, stores_at}
 use Rattle.vab_recover.specs.declared.table.Tables.{Tables}
 use Rattle.vab_survey.specs.declared.found.Behind.{Behind}
 use Rattle.vab_survey.specs.declared.finding.Finding.{Finding}
@@ -57,7 +56,8 @@ FindsStatuses f (Err fault) said = f ≡ Unread
 abbrev pub tables_asked : ℕ → Geometry → UpdateMark → Image → Result (List Table) StartFault
 tables_asked size g m image = tables_in size g (phase_at m).tables image
 
--- The stores that the statuses name, unread where these are wrong.
+-- The stores that the statuses name, or without an update the one of an overlay, unread where the
+-- statuses are wrong.
 abbrev pub FindsScans : Finding
     → Tables
     → UpdateMark
@@ -66,10 +66,7 @@ abbrev pub FindsScans : Finding
     → Type 0
 FindsScans f t m (Ok ss) image =
     Finds f
-    (scans_in
-    (stores_by (is_merging m.phase) (may_place m) (through_slot m.phase m.slot)
-    (through_of m.phase t.source t.target) (written_in ss))
-    image)
+    (scans_in (stores_at m t.source t.target (written_in ss)) image)
 FindsScans f t m (Err fault) image = f ≡ Unread
 
 -- The rules of the partitions, and the stores, which are unread where a rule is broken.

@@ -1,11 +1,12 @@
 //! The readers of the parts, where a fault of what the disk holds is no failure.
 
-ghost use Rattle.std.specs.Prelude.{◌≡◌, ◌<◌, ◌≤◌, Bool, true, IfOk, IfErr, IfSome, IsNone, OnOk};
-ghost use Rattle.std.specs.Prelude.{Ok, Err, Some, None};
+ghost use Rattle.std.specs.Prelude.{◌≡◌, ◌<◌, ◌≤◌, Bool, true, false, IfOk, IfErr, IfSome, IsNone};
+ghost use Rattle.std.specs.Prelude.{OnOk, Ok, Err, Some, None};
 ghost use Rattle.vab_disk.specs.Calls.{OnlyReads};
 ghost use Rattle.vab_tables.specs.Rules.{KeepsRules};
 ghost use Rattle.vab_geometry.specs.Geometry.{IsGeometry};
 ghost use Rattle.vab_layout.specs.Layout.{layout_of};
+ghost use Rattle.vab_layout.specs.Slots.{IsOwn};
 ghost use Rattle.vab_partitions.specs.Merging.{IsMerging};
 ghost use Rattle.vab_device.specs.Faults.{IsOfContents, IsOfDisk};
 ghost use Rattle.vab_device.specs.Kept.{copies_end, super_bytes, AreOfUpdate};
@@ -14,6 +15,7 @@ ghost use Rattle.vab_device.specs.Reading.{most_at};
 ghost use Rattle.vab_tidy.specs.Counts.{CountsFaults};
 ghost use Rattle.vab_recover.specs.Opened.{reads_statuses, is_merging, AreTablesThere};
 ghost use Rattle.vab_recover.specs.Opened.{fault_of};
+ghost use Rattle.vab_recover.specs.Overlay.{KeepsOverlay};
 ghost use Rattle.vab_survey.specs.Findings.{Finds, FindsScans, FindsBehind, IsUnread};
 ghost use Rattle.vab_survey.specs.Findings.{tables_asked, listed};
 
@@ -24,7 +26,7 @@ use vab_disk::Disk;
 use vab_geometry::Geometry;
 use vab_marks::UpdateMark;
 use vab_recover::{
-    Tables, judge_parts, read_control, read_geometry, read_if, read_mark, read_plan, read_tables,
+    Tables, judge_parts, read_control, read_geometry, read_if, read_mark, read_stores, read_tables,
     read_version, reads_statuses,
 };
 use vab_statuses::Statuses;
@@ -141,7 +143,7 @@ pub(crate) fn found_control<D: Disk>(d: &mut D) -> Result<Finding, StartFault>
 }
 
 // The stores of a device with this mark and these tables, whose partitions keep their rules, where
-// its statuses are read.
+// its statuses are read: those that they name, or without an update the one of an overlay.
 fn found_stores<D: Disk>(
     alloc: Global,
     d: &mut D,
@@ -155,9 +157,13 @@ fn found_stores<D: Disk>(
     requires there { AreTablesThere (D.size d.old) geometry.now mark.now tables.now }
     requires update { IfSome tables.now.target
         (λ l. AreOfUpdate mark.now.apart mark.now.slot tables.now.source.table l.table) }
+    requires own { IsOwn mark.now.slot (layout_of tables.now.source.table).parts }
     requires merging { IsNone tables.now.target
         → is_merging mark.now.phase ≡ true
         → IsMerging mark.now.slot (layout_of tables.now.source.table).parts }
+    requires overlay { IsNone tables.now.target
+        → is_merging mark.now.phase ≡ false
+        → KeepsOverlay mark.now.overlaid mark.now.slot (layout_of tables.now.source.table) }
     ensures finds { D.is_modelled → IfOk result (λ f.
         FindsScans f tables.now mark.now (listed statuses.now) (D.seen d.old)) }
     ensures failed { IfErr result (λ f. IsOfContents f → ⊥) }
@@ -166,8 +172,8 @@ fn found_stores<D: Disk>(
 {
     match statuses {
         Err(_) => Ok(Finding::Unread),
-        Ok(statuses) => match read_plan(alloc, d, tables, statuses, mark) {
-            Ok(_plan) => Ok(Finding::Fine),
+        Ok(statuses) => match read_stores(alloc, d, tables, statuses, mark) {
+            Ok(_stored) => Ok(Finding::Fine),
             Err(fault) => found_of(fault),
         },
     }
@@ -192,9 +198,13 @@ fn judge_under<D: Disk>(
         ≡ Some f) }
     ensures update { OnOk result (IfSome tables.now.target
         (λ l. AreOfUpdate mark.now.apart mark.now.slot tables.now.source.table l.table)) }
+    ensures own { OnOk result (IsOwn mark.now.slot (layout_of tables.now.source.table).parts) }
     ensures merging { OnOk result (IsNone tables.now.target
         → is_merging mark.now.phase ≡ true
         → IsMerging mark.now.slot (layout_of tables.now.source.table).parts) }
+    ensures overlay { OnOk result (IsNone tables.now.target
+        → is_merging mark.now.phase ≡ false
+        → KeepsOverlay mark.now.overlaid mark.now.slot (layout_of tables.now.source.table)) }
     ensures reads { OnlyReads D.Disk d.old d.new }
     ensures counts { CountsFaults D.Disk d.old d.new result }
 {

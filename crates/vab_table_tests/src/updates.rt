@@ -20,7 +20,7 @@ use vab_tables::{Table, decode_table, encode_table};
 // most bytes of a copy of a table. Where the source is slot b, it is what an update of b without
 // edits makes of the text. The target stands beside its source or `apart` from it.
 #[derive(Clone, Copy)]
-struct Update<'a> {
+pub(crate) struct Update<'a> {
     text: &'a [u8],
     from: usize,
     to: usize,
@@ -28,7 +28,7 @@ struct Update<'a> {
     apart: bool,
 }
 
-const TO_B: Update<'static> = Update {
+pub(crate) const TO_B: Update<'static> = Update {
     text: &UNLIMITED,
     from: 0,
     to: 1,
@@ -112,7 +112,7 @@ fn of_slot_b(alloc: Global, text: &[u8], max: u32) -> Result<Table, Fail>
 }
 
 // The table of the update's source.
-fn source(alloc: Global, update: &Update<'_>) -> Result<Table, Fail>
+pub(crate) fn source(alloc: Global, update: &Update<'_>) -> Result<Table, Fail>
     requires { AreSlots update.now.from update.now.to }
     ensures { IfOk result (λ t. IsSource update.now.from t) }
 {
@@ -168,7 +168,7 @@ fn edited_twice(
 }
 
 // The table of an update after these edits.
-fn after(
+pub(crate) fn after(
     alloc: Global,
     update: &Update<'_>,
     source: &Table,
@@ -185,7 +185,7 @@ fn after(
 }
 
 // The bytes of a small table's text.
-fn text_size(alloc: Global, table: &Table) -> Result<usize, Fail>
+pub(crate) fn text_size(alloc: Global, table: &Table) -> Result<usize, Fail>
     requires { KeepsRules table.now }
 {
     if !is_small(table) {
@@ -195,7 +195,7 @@ fn text_size(alloc: Global, table: &Table) -> Result<usize, Fail>
 }
 
 // The blocks of a partition, none where there is no such partition.
-fn blocks(alloc: Global, table: &Table, name: &[u8]) -> Result<Vec<u64>, Fail>
+pub(crate) fn blocks(alloc: Global, table: &Table, name: &[u8]) -> Result<Vec<u64>, Fail>
     requires { KeepsRules table.now }
 {
     let layout = Layout::of_table(alloc, table)?;
@@ -223,7 +223,7 @@ fn extents(alloc: Global, table: &Table) -> Result<Vec<(u64, u64)>, Fail> {
 }
 
 // The table of an update after these edits, and that of the target's slot alone.
-fn tables_after(
+pub(crate) fn tables_after(
     alloc: Global,
     update: &Update<'_>,
     edits: &[Edit; 6],
@@ -299,12 +299,12 @@ fn refusal_of_65th(
     .err())
 }
 
-const SYSTEM: &[u8] = b"system_b";
+pub(crate) const SYSTEM: &[u8] = b"system_b";
 
 // An edit that changes nothing where `system` has 100 blocks.
-const SAME: Edit = Edit::Resize(SYSTEM, 409600);
+pub(crate) const SAME: Edit = Edit::Resize(SYSTEM, 409600);
 
-const P1: Edit = Edit::Create(b"p1_b", 4096);
+pub(crate) const P1: Edit = Edit::Create(b"p1_b", 4096);
 
 const P2: Edit = Edit::Create(b"p2_b", 4096);
 

@@ -39,15 +39,17 @@ use Rattle.vab_model.specs.declared.state.PlanEntry.{PlanEntry}
 use Rattle.vab_model.specs.declared.state.Plan.{Plan}
 use Rattle.vab_model.specs.declared.state.Phase.{Phase}
 use Rattle.vab_model.specs.declared.state.Phase.TheVariants.{Idle, Installing, Staged, Merging}
+use Rattle.vab_model.specs.declared.state.Overlay.{Overlay}
 use Rattle.vab_model.specs.declared.command.Refusal.TheVariants as refusals
 use Rattle.vab_model.specs.declared.command.Reply.TheVariants as replies
-use Rattle.vab_model.specs.Effects.{Effect, after_of}
+use Rattle.vab_model.specs.Effects.{Effect, after_of, if_plain}
 use Rattle.vab_model.specs.State.{images_at}
 use Rattle.vab_model.specs.Plans.{twins_of, kept_entry, begun_plan}
 use Rattle.vab_device.specs.declared.fault.StartFault.TheVariants.{BadState}
 use Rattle.vab_device.specs.Checks.{Check, check}
 use Rattle.vab_device.specs.Kept.{group_of, sectors_of, part_on, parts_of, IsPart, AreParts}
 use Rattle.vab_device.specs.Mounted.{Mounted, mounted_on, state_on, image_on, bytes_at, phase_on}
+use Rattle.vab_device.specs.Mounted.{overlay_on}
 use Rattle.vab_device.specs.Phases.{is_good, own_check}
 use Rattle.vab_device.specs.Reading.{Read, kept, IsIn, Reads, table_at}
 use Rattle.vab_device.specs.Stores.{Scanned}
@@ -56,14 +58,14 @@ use Rattle.vab_device.specs.Updates.{image_or, entry_by, plan_by, replanned, no_
 use Rattle.vab_device.proofs.CheckLaws.{first_kept, check_kept}
 use Rattle.vab_device.proofs.MostLaws.{parts_all}
 use Rattle.vab_device.proofs.OwnParts.{parts_kept, length-sectors_of}
-use Rattle.vab_device.proofs.MarkLaws.{as_phase}
-use Rattle.vab_device.proofs.ReadingLaws.{device_was, idle_read_of, slot_below, apart_known}
+use Rattle.vab_device.proofs.ReadingLaws.{device_was, slot_below}
 use Rattle.vab_device.proofs.StayLaws.{one_of}
 use Rattle.vab_edit.proofs.PlanLaws.{map_among, map_map}
 use Rattle.vab_marks.specs.declared.mark.UpdateMark.{UpdateMark}
 use Rattle.vab_marks.specs.Mark.{rephased, resloted}
 use Rattle.vab_targets.specs.Sectors.{HasWholeSectors}
 use Rattle.vab_targets.proofs.Plans.{with_plan, begin_of, BeginKeepsImages}
+use Rattle.vab_targets.proofs.PlainIdle.{plain_idle}
 use Rattle.vab_targets.proofs.Sectors.{blocks_long, table_rules, IsRead}
 use Rattle.vab_targets.proofs.Entries.{size_absent, own_is, no_store}
 use Rattle.vab_targets.proofs.Installed.{IsReadAs, none_named}
@@ -256,17 +258,22 @@ phase_said : (r : Read) (image : Image)
 unfolding state_on
 phase_said r image = refl
 
+overlay_said : (r : Read) (image : Image)
+    → (mounted_on (kept r) image).state.overlay ≡ overlay_on image (kept r).overlay
+unfolding state_on
+overlay_said r image = refl
+
 has_idle : (size : ℕ) (image : Image) (m : Mounted)
     → IsIn size m image
     → m.state.phase ≡ Idle
+    → m.state.overlay ≡ None
     → HasIdle size image m
-has_idle size image m is phase =
+has_idle size image m is phase plain =
     let was = device_was size image m is in
     let r : Read = was.read in
-    let idle : r.mark.phase ≡ marks.Idle =
-    idle_read_of size r image was.reads
-    (sym (phase_said r image) ∙ sym (ap (λ (x : Mounted). x.state.phase) was.is) ∙ phase) in
-    let is_marked = as_phase r.mark marks.Idle (apart_known image r.mark was.reads.mark) idle in
+    let is_marked = plain_idle size r image was.reads
+    (sym (phase_said r image) ∙ sym (ap (λ (x : Mounted). x.state.phase) was.is) ∙ phase)
+    (sym (overlay_said r image) ∙ sym (ap (λ (x : Mounted). x.state.overlay) was.is) ∙ plain) in
     let marked : r ≡ record r { mark = rephased marks.Idle r.mark } =
     (λ i. record r { mark = is_marked i }) in
     let now = subst (IsReadAs size image m) marked (record { reads = was.reads; is = was.is }) in
@@ -409,10 +416,11 @@ Keeps apart m e =
 begin_by : (size : ℕ) (image : Image) (m : Mounted) (apart : Bool)
     → HasWholeSectors size image
     → IsIn size m image
+    → m.state.overlay ≡ None
     → Keeps apart m (begin_effect m apart m.state.phase)
-begin_by size image m apart whole is done =
+begin_by size image m apart whole is plain done =
     let idle = idle_by m apart m.state.phase done in
-    let h = has_idle size image m is idle in
+    let h = has_idle size image m is idle plain in
     let begins : Begins apart m m.state.control.current =
     subst (λ (x : Mounted). Begins apart x x.state.control.current) (sym h.read.is)
     (begins_current size image h.base h.slot h.statuses h.c h.g h.t h.scanned whole h.read.reads
@@ -420,11 +428,29 @@ begin_by size image m apart whole is done =
     let from : Keeps apart m (begin_effect m apart Idle) = begins in
     subst (λ (phase : Phase). Keeps apart m (begin_effect m apart phase)) (sym idle) from done
 
+-- none begins over an overlay
+plain_by : (o : Option Overlay) (e : Effect Mounted)
+    → (if_plain o e).reply ≡ replies.Done
+    → o ≡ None
+plain_by None e done = refl
+plain_by (Some o) e done = refused_not refusals.NotIdle done
+
+begin_plain : (size : ℕ) (image : Image) (m : Mounted) (apart : Bool)
+    → HasWholeSectors size image
+    → IsIn size m image
+    → Keeps apart m (if_plain m.state.overlay (begin_effect m apart m.state.phase))
+begin_plain size image m apart whole is done =
+    let e : Effect Mounted = begin_effect m apart m.state.phase in
+    let plain = plain_by m.state.overlay e done in
+    subst (λ (o : Option Overlay). Keeps apart m (if_plain o e)) (sym plain)
+    (begin_by size image m apart whole is plain) done
+
 pub begin_is : (m : Mounted) (staged : Option (List ℕ)) (apart : Bool)
-    → begin_effect m apart m.state.phase ≡ effect_on m staged (begin_of apart)
+    → if_plain m.state.overlay (begin_effect m apart m.state.phase)
+    ≡ effect_on m staged (begin_of apart)
 begin_is m staged true = refl
 begin_is m staged false = refl
 
 pub begin_keeps : BeginKeepsImages
 begin_keeps size image m staged apart whole is =
-    subst (Keeps apart m) (begin_is m staged apart) (begin_by size image m apart whole is)
+    subst (Keeps apart m) (begin_is m staged apart) (begin_plain size image m apart whole is)

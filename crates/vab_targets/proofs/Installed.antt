@@ -51,7 +51,8 @@ use Rattle.vab_device.proofs.CheckLaws.{first_kept, check_kept}
 use Rattle.vab_device.proofs.MostLaws.{parts_all}
 use Rattle.vab_device.proofs.NamedParts.{first_is}
 use Rattle.vab_device.proofs.OwnParts.{length-sectors_of}
-use Rattle.vab_device.proofs.ReadingLaws.{device_was, slot_below}
+use Rattle.vab_device.proofs.MarkLaws.{as_phase}
+use Rattle.vab_device.proofs.ReadingLaws.{device_was, slot_below, flags_known}
 use Rattle.vab_edit.proofs.InstallingLaws.{read_at, two_tables}
 use Rattle.vab_edit.proofs.NamedLaws.{base_eq, first_own}
 use Rattle.vab_edit.proofs.PlanLaws.{map_among, map_map}
@@ -118,8 +119,10 @@ has_read size image m source plan is phase =
     let installing : r.mark.phase ≡ marks.Installing =
     installing_of r image source plan
     (sym (ap (λ (x : Mounted). x.state.phase) was.is) ∙ phase) in
+    let is_marked = as_phase r.mark marks.Installing (flags_known image r.mark was.reads.mark) refl
+    installing in
     let marked : r ≡ record r { mark = rephased marks.Installing r.mark } =
-    (λ i. record r { mark = record r.mark { phase = installing i } }) in
+    (λ i. record r { mark = is_marked i }) in
     let now = subst (IsReadAs size image m) marked (record { reads = was.reads; is = was.is }) in
     let two = two_tables size r.geometry r.mark.slot (other_slot r.mark.slot) image r.tables
     now.reads.tables in

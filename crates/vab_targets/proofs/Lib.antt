@@ -10,5 +10,6 @@ mod Entries
 pub mod Named
 mod Edits
 pub mod Updates
+pub mod PlainIdle
 pub mod Begun
 mod WrittenLaws

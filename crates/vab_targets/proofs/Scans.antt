@@ -1,6 +1,7 @@
 -- What is read of the images that statuses name.
 use Rattle.std.proofs.Common.{◌≡◌, ◌∙◌, inl, inr, ℕ, Bool, true, false, List, [], ◌∷◌, length}
 use Rattle.std.proofs.Common.{map, Option, Some, None, Result, Ok, Err, refl, sym, ap}
+use Rattle.std.specs.Prelude.{◌&&◌}
 use Rattle.std.specs.Str.{bytes_eq}
 use Rattle.std.proofs.lemmas.Bool.{cases_Bool, both_ways}
 use Rattle.vab_disk.specs.Disk.{Image}
@@ -22,8 +23,10 @@ use Rattle.vab_device.specs.declared.fault.StartFault.TheVariants.{BadStore}
 use Rattle.vab_device.specs.Checks.{unless, ◌>>=◌}
 use Rattle.vab_device.specs.Kept.{sectors_of}
 use Rattle.vab_device.specs.Stores.{Wanted, Scanned, first_named, image_wanted, wanted_of, is_long}
-use Rattle.vab_device.specs.Stores.{scan_read, scan_by, scan_at, scans_in, scanned_named}
+use Rattle.vab_device.specs.Stores.{is_one, scan_read, scan_by, scan_at, scans_in}
+use Rattle.vab_device.specs.Stores.{scanned_named}
 use Rattle.vab_device.proofs.CheckLaws.{bound}
+use Rattle.vab_device.proofs.StoreLaws.{clean_taken}
 use Rattle.vab_edit.proofs.NamedLaws.{first_is}
 
 -- the first of the images that were read, and the others
@@ -86,7 +89,10 @@ scan_by_name w None image s h =
     let same : read ≡ s = cc in
     ap (λ (x : Scanned). x.name) same
 scan_by_name w (Some store) image s h =
-    scan_name w (scan_of w.chunk store (length w.base) image) s h
+    let read : Result Scanned StartFault =
+    scan_read w (scan_of w.chunk store (length w.base) image) in
+    scan_name w (scan_of w.chunk store (length w.base) image) s
+    (clean_taken (w.clean && is_one w.chunk) w.name store image read s h)
 
 pub read_name : (w : Wanted) (image : Image) (s : Scanned)
     → scan_at w image ≡ Ok s
@@ -126,6 +132,7 @@ wanted_found true at name InPlace (Some p) None w h =
       chunk = One;
       count = 0;
       fewer = false;
+      clean = false;
     }) w h
 wanted_found false at name InPlace (Some p) None w h = absurd (no_store name w h)
 wanted_found b at name (Stored count k) (Some p) None w h = absurd (no_store name w h)
@@ -137,6 +144,7 @@ wanted_found b at name (Stored count k) (Some p) (Some q) w h =
       chunk = k;
       count = count;
       fewer = false;
+      clean = false;
     }) w h
 
 -- ---- where no image is in place, each has a store

@@ -121,7 +121,7 @@ table_kept d size u dev idle of =
       control = dev.control;
       phase = dev.phase;
       slot = dev.slot;
-      apart = dev.apart;
+      flags = dev.flags;
       current = dev.current;
       has_a = dev.has_a;
       has_b = dev.has_b;
@@ -139,4 +139,6 @@ table_kept d size u dev idle of =
           (table_of_slot (with_table u d) d.mark.slot)
           (table_of_slot (with_table u d) (other_slot d.mark.slot))
           (ap is_some other ∙ dev.target ∙ ap reads_both idle);
+      overlaid = dev.overlaid;
+      overlay = dev.overlay;
     }

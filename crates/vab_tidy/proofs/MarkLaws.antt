@@ -14,8 +14,7 @@ use Rattle.vab_marks.specs.declared.mark.UpdateMark.{UpdateMark}
 use Rattle.vab_marks.specs.declared.sector.MarkFault.{MarkFault}
 use Rattle.vab_marks.specs.declared.version.MarkVersion.TheVariants.{Two}
 use Rattle.vab_marks.specs.declared.sector.MarkFault.TheVariants.{BadField}
-use Rattle.vab_marks.specs.Mark.{may_stand_apart, MayStandApart, phase_of, with_phase, mark_magic}
-use Rattle.vab_marks.specs.Mark.{mark_fields, mark_of, rephased}
+use Rattle.vab_marks.specs.Mark.{FlagsFit, mark_of, rephased}
 use Rattle.vab_marks.specs.Sector.{are_zeros, head_fault}
 use Rattle.vab_marks.specs.Sector as sectors
 use Rattle.vab_marks.specs.Version.{is_version, partitions_under}
@@ -27,7 +26,7 @@ use Rattle.vab_device.specs.declared.device.Device.{Device}
 use Rattle.vab_device.specs.Reading.{Read, kept, device, SameRead, Represents, mark_read, mark_in}
 use Rattle.vab_device.specs.Reading.{IsOfTables, settled, version_at}
 use Rattle.vab_device.proofs.Behind.{images_behind}
-use Rattle.vab_device.proofs.MarkLaws.{rephased_again}
+use Rattle.vab_device.proofs.MarkLaws.{as_phase, mark_flags}
 use Rattle.vab_device.proofs.ReadingLaws.{reads_kept, device_same}
 use Rattle.vab_device.proofs.SameLaws.{control_same, geometry_same, tables_agree, images_same}
 use Rattle.vab_device.proofs.StayLaws.{copy_stays, copies_from}
@@ -35,63 +34,6 @@ use Rattle.vab_device.proofs.StoreLaws.{statuses_kept}
 use Rattle.vab_tidy.specs.Tidied.{HasCompleted, is_completed}
 use Rattle.vab_tidy.specs.Tidied.{says_completed}
 use Rattle.vab_tidy.proofs.StandsLaws.{StandsIdle, read_at}
-
--- ---- in a mark that is read a target stands apart where one may
-
-phase_said : (p q : MarkPhase × Bool)
-    → (let one : Option (MarkPhase × Bool) = Some p in one ≡ Some q)
-    → IsTrue (may_stand_apart p.0 || not p.1)
-    → IsTrue (may_stand_apart q.0 || not q.1)
-phase_said p q said fits =
-    subst (λ (x : MarkPhase × Bool). IsTrue (may_stand_apart x.0 || not x.1))
-    (let e : p ≡ q = cc in e) fits
-
-phase_fits : (b : ℕ) (p : MarkPhase × Bool)
-    → phase_of b ≡ Some p
-    → IsTrue (may_stand_apart p.0 || not p.1)
-phase_fits zero p is = phase_said (marks.Idle, false) p is refl
-phase_fits (suc zero) p is = phase_said (marks.Installing, false) p is refl
-phase_fits (suc (suc zero)) p is = phase_said (marks.Staged, false) p is refl
-phase_fits (suc (suc (suc zero))) p is = phase_said (marks.Merging, false) p is refl
-phase_fits (suc (suc (suc (suc zero)))) p is = phase_said (marks.Completed, false) p is refl
-phase_fits (suc (suc (suc (suc (suc zero))))) p is =
-    phase_said (marks.Installing, true) p is refl
-phase_fits (suc (suc (suc (suc (suc (suc zero)))))) p is =
-    phase_said (marks.Staged, true) p is refl
-phase_fits (suc (suc (suc (suc (suc (suc (suc n))))))) p is = absurd cc
-
-fields_apart : (bytes : List ℕ) (m : UpdateMark) → mark_fields bytes ≡ Ok m → MayStandApart m
-fields_apart bytes m is =
-    elim (cases_Bool (nat_lt (slice_index bytes 6) 2 && are_zeros (field bytes 7 501))) [
-      | inl both ↦
-          let taken : ok_or (option_map (with_phase (slice_index bytes 6))
-          (phase_of (slice_index bytes 5))) BadField ≡ Ok m = rw both at is in
-          of_phase (slice_index bytes 6) (phase_of (slice_index bytes 5))
-          (phase_fits (slice_index bytes 5)) taken
-      | inr not ↦
-          let bad : (let x : Result UpdateMark MarkFault = Err BadField in x ≡ Ok m) =
-          rw not at is in
-          absurd cc
-    ]
-  where
-    of_phase : (slot : ℕ) (o : Option (MarkPhase × Bool))
-        → ((p : MarkPhase × Bool) → o ≡ Some p → IsTrue (may_stand_apart p.0 || not p.1))
-        → ok_or (option_map (with_phase slot) o) BadField ≡ Ok m
-        → MayStandApart m
-    of_phase slot None fits is = absurd cc
-    of_phase slot (Some p) fits is =
-        subst MayStandApart (let e : with_phase slot p ≡ m = cc in e) (fits p refl)
-
-mark_apart : (bytes : List ℕ) (m : UpdateMark) → mark_of bytes ≡ Ok m → MayStandApart m
-unfolding mark_of
-mark_apart bytes m is =
-    by_head (head_fault mark_magic (is_version (slice_index bytes 4)) bytes) is
-  where
-    by_head : (o : Option MarkFault)
-        → sectors.unless o (mark_fields bytes) ≡ Ok m
-        → MayStandApart m
-    by_head None is = fields_apart bytes m is
-    by_head (Some fault) is = absurd cc
 
 -- ---- the mark of a merge that has ended
 
@@ -118,16 +60,21 @@ completed_phase marks.Staged is = absurd cc
 completed_phase marks.Merging is = absurd cc
 completed_phase marks.Completed is = refl
 
+completed_again : (k : UpdateMark)
+    → FlagsFit k
+    → k.phase ≡ marks.Completed
+    → k ≡ rephased marks.Completed (record k { phase = settled k.phase })
+completed_again k fits is =
+    as_phase k marks.Completed fits refl is
+
 says_slot : (x : Result UpdateMark MarkFault) (m : UpdateMark)
-    → ((k : UpdateMark) → x ≡ Ok k → MayStandApart k)
+    → ((k : UpdateMark) → x ≡ Ok k → FlagsFit k)
     → mark_read x ≡ Ok m
     → says_completed x ≡ true
     → x ≡ Ok (rephased marks.Completed m)
 says_slot (Ok k) m fits read is =
-    let same : rephased (settled k.phase) k ≡ m = cc in
-    let phase = completed_phase k.phase is in
-    ap Ok (sym (rephased_again k (fits k refl)))
-    ∙ ap (λ (p : MarkPhase). Ok (rephased p k)) phase
+    let same : record k { phase = settled k.phase } ≡ m = cc in
+    ap Ok (completed_again k (fits k refl) (completed_phase k.phase is))
     ∙ ap (λ (x : UpdateMark). Ok (rephased marks.Completed x)) same
 says_slot (Err f) m fits read is = absurd cc
 
@@ -138,7 +85,7 @@ pub says_of : (m : UpdateMark) (image : Image)
     → HasCompleted m image
 unfolding mark_in
 says_of m image read is =
-    says_slot (mark_of (image 2048)) m (λ k there. mark_apart (image 2048) k there) read is
+    says_slot (mark_of (image 2048)) m (λ k there. mark_flags (image 2048) k there) read is
 
 pub says_none : (m : UpdateMark) (image : Image)
     → says_completed (mark_of (image 2048)) ≡ false
@@ -199,6 +146,7 @@ module _
     images_b = images_same old image (kept r).b
         (λ s is. behind s (images_behind size 4096 1 _ _ r old s st.reads (omega arith) is));
     plan = refl;
+    overlay = refl;
   }
 
   pub marked_means : device size image ≡ device size old

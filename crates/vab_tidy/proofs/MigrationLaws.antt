@@ -19,10 +19,10 @@ use Rattle.vab_device.specs.declared.fault.StartFault.TheVariants.{BadMark}
 use Rattle.vab_device.specs.Phases.{phase_at}
 use Rattle.vab_device.specs.Reading.{Read, Reads, SameRead, kept, stores_of, mark_read, mark_in}
 use Rattle.vab_device.specs.Reading.{version_at, most_at, statuses_read, statuses_at}
-use Rattle.vab_device.proofs.Behind.{images_behind, stores_behind, plan_behind}
+use Rattle.vab_device.proofs.Behind.{images_behind, stores_behind, plan_behind, overlay_behind}
 use Rattle.vab_device.proofs.SameLaws.{control_same, geometry_same, tables_agree, images_same}
 use Rattle.vab_device.proofs.StayLaws.{copies_from}
-use Rattle.vab_device.proofs.StoreLaws.{stores_kept, plan_kept}
+use Rattle.vab_device.proofs.StoreLaws.{stores_kept, plan_kept, overlay_kept}
 use Rattle.vab_tidy.specs.Migration.{IsOfAdded}
 
 -- one same reading behind the other
@@ -41,6 +41,7 @@ same_then size r old mid new first then_ = record {
   images_a = then_.images_a ∙ first.images_a;
   images_b = then_.images_b ∙ first.images_b;
   plan = then_.plan ∙ first.plan;
+  overlay = then_.overlay ∙ first.overlay;
 }
 
 marks_same : (old new : Image)
@@ -96,6 +97,9 @@ module _
     plan =
         plan_kept (kept r).plan old new
         (λ s is. high s (omega (arith, plan_behind size 4096 r old s reads (omega arith) is)));
+    overlay =
+        overlay_kept (kept r).overlay old new
+        (λ s is. high s (omega (arith, overlay_behind size 4096 r old s reads (omega arith) is)));
   }
 
   -- ---- before the mark is written

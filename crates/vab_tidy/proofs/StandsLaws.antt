@@ -20,8 +20,8 @@ use Rattle.vab_device.specs.Phases.{phase_in, phase_at}
 use Rattle.vab_device.specs.Reading.{Read, Reads, Represents, AgreeCopies, version_at, statuses_at}
 use Rattle.vab_device.specs.Reading.{control_in}
 use Rattle.vab_device.specs.Stores.{scans_in}
-use Rattle.vab_device.proofs.MarkLaws.{rephased_again}
-use Rattle.vab_device.proofs.ReadingLaws.{one_table, control_is_seen, apart_known}
+use Rattle.vab_device.proofs.MarkLaws.{as_idle}
+use Rattle.vab_device.proofs.ReadingLaws.{one_table, control_is_seen, flags_known}
 use Rattle.vab_device.proofs.UpdateLaws.{kept_with}
 use Rattle.vab_marks.specs.Mark.{rephased, resloted}
 
@@ -57,6 +57,7 @@ module _
     (d : Device) (size : ℕ) (image : Image) (t : Table)
     (below : d.mark.slot < 2)
     (idle : d.mark.phase ≡ marks.Idle)
+    (plain : d.mark.overlaid ≡ false)
     (has : table_of_slot d d.mark.slot ≡ Some t)
     (is : Represents d size image) where
   abbrev r : Read
@@ -74,10 +75,11 @@ module _
   phase : r.mark.phase ≡ marks.Idle
   phase = sym (ap (λ (k : Device). k.mark.phase) is.is) ∙ idle
 
+  plainly : r.mark.overlaid ≡ false
+  plainly = sym (ap (λ (k : Device). k.mark.overlaid) is.is) ∙ plain
+
   phased : r.mark ≡ rephased marks.Idle r.mark
-  phased =
-      sym (rephased_again r.mark (apart_known image r.mark is.reads.mark))
-      ∙ ap (λ (p : MarkPhase). rephased p r.mark) phase
+  phased = as_idle r.mark (flags_known image r.mark is.reads.mark) plainly phase
 
   one : (u : Table) × (r.tables ≡ u ∷ [])
   one = one_table size r image phase is.reads
@@ -93,10 +95,15 @@ module _
   scanned =
       let none : Result.Ok [] ≡ Ok r.scanned =
       subst
-      (λ (p : MarkPhase).
-      scans_in ((phase_in p r.mark).stores r.tables (written_in r.statuses)) image
+      (λ (ts : List Table).
+      scans_in ((phase_at (rephased marks.Idle r.mark)).stores ts (written_in r.statuses)) image
       ≡ Ok r.scanned)
-      phase is.reads.stores in
+      one.1
+      (subst
+      (λ (m : UpdateMark).
+      scans_in ((phase_at m).stores r.tables (written_in r.statuses)) image
+      ≡ Ok r.scanned)
+      phased is.reads.stores) in
       cc
 
   seen : r.control ≡ control_read_of r.mark.slot d.control

@@ -36,6 +36,7 @@ IsAloneIf max slot t (Some x) = IsAlone max slot t x
 -- this is to be done with this mark and this table of its slot
 pub record IsTidying (max : ℕ) (m : UpdateMark) (t : Table) (x : Tidying) : Type 0 where
   pub idle : m.phase ≡ marks.Idle
+  pub plain : m.overlaid ≡ false
   pub alone : IsAloneIf max m.slot t x.alone
 
 -- something is to be done exactly where the mark of the disk says that a merge has ended
@@ -47,6 +48,7 @@ IsDue m image (Some x) = HasCompleted m image
 
 pub record IsAloneFor (d : Device) (x : Alone) : Type 0 where
   pub idle : d.mark.phase ≡ marks.Idle
+  pub plain : d.mark.overlaid ≡ false
   pub table : Table
   pub is : table_of_slot d d.mark.slot ≡ Some table
   pub alone : IsAlone d.geometry.max d.mark.slot table x

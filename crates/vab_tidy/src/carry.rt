@@ -1,6 +1,6 @@
 //! What is written behind a merge that has ended.
 
-ghost use Rattle.std.specs.Prelude.{◌≡◌, ◌<◌, ◌≤◌, ◌+◌, IfSome, IsNone, Ok, OnOk};
+ghost use Rattle.std.specs.Prelude.{◌≡◌, ◌<◌, ◌≤◌, ◌+◌, false, IfSome, IsNone, Ok, OnOk};
 ghost use Rattle.vab_marks.specs.declared.mark.MarkPhase.TheVariants as marks;
 ghost use Rattle.vab_marks.specs.Mark.{mark_of, mark_spelling, rephased};
 ghost use Rattle.vab_disk.specs.Disk.{IsAt};
@@ -59,6 +59,7 @@ fn put_idle<D: Disk>(d: &mut D, device: Device) -> Result<Device, DiskFault>
     requires kept { IsDevice device (D.size d.old) }
     requires represents { D.is_modelled → Represents device (D.size d.old) (D.seen d.old) }
     requires idle { device.mark.phase ≡ marks.Idle }
+    requires plain { device.mark.overlaid ≡ false }
     ensures stays { Stays D.Disk
         (IsAt 2048 (mark_spelling (rephased marks.Idle device.mark))) device d.old d.new result }
     ensures mark { D.is_modelled

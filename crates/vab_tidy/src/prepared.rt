@@ -173,6 +173,9 @@ pub fn prepare<D: Disk>(
     if !mark.phase.is_idle() {
         return Ok(None);
     }
+    if mark.overlaid {
+        return Ok(None);
+    }
     match has_completed(d) {
         Err(fault) => Err(fault),
         Ok(false) => Ok(None),

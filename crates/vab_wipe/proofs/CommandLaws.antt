@@ -98,7 +98,8 @@ module _ {D : Type 0} (g : Ghosts D) (d : Device) (staged : Option (List ℕ)) w
 
     st : g.is_modelled → StandsIdle d (g.size old) (g.seen old) own.0
     st t =
-        stands_idle d (g.size old) (g.seen old) own.0 kept.slot p.taken.are.idle own.1 (is t)
+        stands_idle d (g.size old) (g.seen old) own.0 kept.slot p.taken.are.idle
+        p.taken.are.bare own.1 (is t)
 
     short : length text ≤ d.geometry.max
     short = omega (arith, p.spelled.long, p.emptied.size)
@@ -141,6 +142,7 @@ module _ {D : Type 0} (g : Ghosts D) (d : Device) (staged : Option (List ℕ)) w
         → IsOfWipe d staged s b
     writes s b of_text = record {
       idle = p.taken.are.idle;
+      bare = p.taken.are.bare;
       bytes = p.taken.bytes;
       are_staged = p.taken.are.are_staged;
       image = p.image;

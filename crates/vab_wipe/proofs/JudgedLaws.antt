@@ -1,9 +1,9 @@
 -- What is decided of a wipe is what the table of effects says of it.
-use Rattle.std.proofs.Common.{◌≡◌, ◌≢◌, ◌∙◌, inl, inr, ℕ, ◌+◌, ◌≤◌, true, false, List, refl}
+use Rattle.std.proofs.Common.{◌≡◌, ◌≢◌, ◌∙◌, inl, inr, ⊎_elim, ℕ, ◌+◌, ◌≤◌, true, false, List, refl}
 use Rattle.std.proofs.Common.{sym, ap, subst}
 use Rattle.std.specs.Prelude.{Bool, Option, Some, None, is_some, if◌then◌else◌}
 use Rattle.std.specs.Prelude.{Result, Ok, Err, IfErr}
-use Rattle.std.proofs.lemmas.Bool.{eqb-true, le-leb}
+use Rattle.std.proofs.lemmas.Bool.{eqb-true, le-leb, cases_Bool}
 use Rattle.vab_disk.specs.Disk.{Image}
 use Rattle.vab_marks.specs.declared.mark.MarkPhase.{MarkPhase}
 use Rattle.vab_marks.specs.declared.mark.MarkPhase.TheVariants as marks
@@ -19,12 +19,14 @@ use Rattle.vab_model.specs.declared.command.Refusal.TheVariants as refusals
 use Rattle.vab_model.specs.declared.command.Reply.TheVariants as replies
 use Rattle.vab_model.specs.Commands.{UpdateSuper}
 use Rattle.vab_model.specs.Effects.{Effect, refuses, does, wanting, effect_map, unless_refused}
-use Rattle.vab_model.specs.Wipe.{filled_refusal, if_passing, judged_effect}
+use Rattle.vab_model.specs.Effects.{if_plain}
+use Rattle.vab_model.specs.Wipe.{filled_refusal, if_passing, judged_effect, wipe_effect}
 use Rattle.vab_device.specs.declared.device.Part.{Part}
 use Rattle.vab_device.specs.declared.device.Device.{Device}
 use Rattle.vab_device.specs.Kept.{IsDevice, IsPhase, has_slot, is_installing}
 use Rattle.vab_device.specs.Mounted.{Mounted, places_on, entries_on, count_at, unplanned}
-use Rattle.vab_device.specs.Mounted.{phase_by, phase_on, state_on, mounted_on}
+use Rattle.vab_device.specs.Mounted.{phase_by, phase_on, state_on, mounted_on, overlay_on}
+use Rattle.vab_device.proofs.OverlayLaws.{plain_none}
 use Rattle.vab_device.specs.Updates.{other_super, full_super, wiped, update_super, effect_on}
 use Rattle.vab_wipe.specs.Prepared.{other, full, judged, or_later, refused_image, Refuses}
 use Rattle.vab_wipe.specs.Prepared.{AreTaken}
@@ -87,52 +89,99 @@ current_is d size kept idle =
     (subst
     (λ (p : MarkPhase). has_slot p d.mark.slot d.control.current ≡ true) idle kept.current))
 
+-- with an overlay nothing but an idle device without one is wiped
+if_overlaid : {S : Type 0} (image : Image) (o : Option Part) (next : Effect S)
+    → is_some o ≡ true
+    → if_plain (overlay_on image o) next ≡ refuses refusals.NotIdle
+if_overlaid image None next is = absurd (let no : false ≡ true = is in cc)
+if_overlaid image (Some p) next is = refl
+
 module _ (d : Device) (size : ℕ) (image : Image) (staged : Option (List ℕ))
     (kept : IsDevice d size) where
   abbrev m : Mounted
   m = mounted_on d image
 
   by_current : effect_on m staged UpdateSuper
-      ≡ update_super m d.control.current staged (phase_on d image)
+      ≡ if_plain (overlay_on image d.overlay)
+      (update_super m d.control.current staged (phase_on d image))
   unfolding state_on
   by_current = refl
 
-  effect_busy : d.mark.phase ≢ marks.Idle
+  -- without an overlay it is the row of the phase
+  by_bare : d.mark.overlaid ≡ false
+      → effect_on m staged UpdateSuper
+      ≡ update_super m d.control.current staged (phase_on d image)
+  by_bare bare =
+      by_current
+      ∙ ap
+      (λ (o : Option Part).
+      if_plain (overlay_on image o)
+      (update_super m d.control.current staged (phase_on d image)))
+      (plain_none d size kept bare)
+
+  bare_row : d.mark.overlaid ≡ false
+      → judged d staged (phase_on d image)
+      ≡ wipe_effect (other d) (full d) (λ i. i) d.mark.slot staged (phase_on d image)
+  bare_row bare = λ k.
+      if bare k then refuses refusals.NotIdle
+      else wipe_effect (other d) (full d) (λ i. i) d.mark.slot staged (phase_on d image)
+
+  -- an overlay refuses it
+  effect_overlaid : d.mark.overlaid ≡ true
       → effect_on m staged UpdateSuper
       ≡ effect_map (wiped m d.mark.slot) (judged d staged (phase_on d image))
-  effect_busy not =
-      let busy = busy_phase d size image kept not in
+  effect_overlaid overlaid =
       by_current
+      ∙ if_overlaid image d.overlay
+      (update_super m d.control.current staged (phase_on d image))
+      (kept.overlaid ∙ overlaid)
+      ∙ ap (effect_map (wiped m d.mark.slot))
+      (λ k.
+      if sym overlaid k then refuses refusals.NotIdle
+      else wipe_effect (other d) (full d) (λ i. i) d.mark.slot staged (phase_on d image))
+
+  effect_busy : d.mark.overlaid ≡ false
+      → d.mark.phase ≢ marks.Idle
+      → effect_on m staged UpdateSuper
+      ≡ effect_map (wiped m d.mark.slot) (judged d staged (phase_on d image))
+  effect_busy bare not =
+      let busy = busy_phase d size image kept not in
+      by_bare bare
       ∙ busy_refuses (other_super (places_on d) d.control.current) (full_super (places_on d))
       (wiped m d.control.current) d.control.current staged (phase_on d image) busy
       ∙ ap (effect_map (wiped m d.mark.slot))
       (sym
-      (busy_refuses (other d) (full d) (λ i. i) d.mark.slot staged (phase_on d image) busy))
+      (bare_row bare
+      ∙ busy_refuses (other d) (full d) (λ i. i) d.mark.slot staged (phase_on d image) busy))
 
-  effect_idle : d.mark.phase ≡ marks.Idle
+  effect_idle : d.mark.overlaid ≡ false
+      → d.mark.phase ≡ marks.Idle
       → effect_on m staged UpdateSuper
       ≡ effect_map (wiped m d.mark.slot) (judged d staged (phase_on d image))
-  effect_idle idle =
-      by_current
+  effect_idle bare idle =
+      by_bare bare
       ∙ ap (λ (n : ℕ). update_super m n staged (phase_on d image)) (current_is d size kept idle)
       ∙ wipe_map (wiped m d.mark.slot) (other d) (full d) (λ i. i) d.mark.slot staged
       (phase_on d image)
+      ∙ ap (effect_map (wiped m d.mark.slot)) (sym (bare_row bare))
 
   -- A wipe of the device makes of the image that is taken what the table of effects says.
   pub effect_judged : effect_on m staged UpdateSuper
       ≡ effect_map (wiped m d.mark.slot) (judged d staged (phase_on d image))
-  effect_judged = by_phase kept.phase
+  effect_judged = ⊎_elim effect_overlaid (λ bare. by_phase bare kept.phase)
+      (cases_Bool d.mark.overlaid)
     where
-      by_phase : IsPhase d.mark.phase
+      by_phase : d.mark.overlaid ≡ false
+          → IsPhase d.mark.phase
           → effect_on m staged UpdateSuper
           ≡ effect_map (wiped m d.mark.slot) (judged d staged (phase_on d image))
-      by_phase (inl idle) = effect_idle idle
-      by_phase (inr (inl is)) =
-          effect_busy (λ e. let both : marks.Idle ≡ marks.Installing = sym e ∙ is in cc)
-      by_phase (inr (inr (inl is))) =
-          effect_busy (λ e. let both : marks.Idle ≡ marks.Staged = sym e ∙ is in cc)
-      by_phase (inr (inr (inr is))) =
-          effect_busy (λ e. let both : marks.Idle ≡ marks.Merging = sym e ∙ is in cc)
+      by_phase bare (inl idle) = effect_idle bare idle
+      by_phase bare (inr (inl is)) =
+          effect_busy bare (λ e. let both : marks.Idle ≡ marks.Installing = sym e ∙ is in cc)
+      by_phase bare (inr (inr (inl is))) =
+          effect_busy bare (λ e. let both : marks.Idle ≡ marks.Staged = sym e ∙ is in cc)
+      by_phase bare (inr (inr (inr is))) =
+          effect_busy bare (λ e. let both : marks.Idle ≡ marks.Merging = sym e ∙ is in cc)
 
   -- what is refused there is refused by it
   pub effect_refused : (r : Refusal) (is : Refuses d staged r)
@@ -154,7 +203,10 @@ module _ (d : Device) (size : ℕ) (staged : Option (List ℕ)) (bytes : List �
       → judged d staged (phase_on d image)
       ≡ wanting true (row (super_image_of d.mark.slot bytes))
   taken_row image =
-      (λ k. judged d (are.are_staged k) (idle_phase d size image kept are.idle k))
+      bare_row d size image staged kept are.bare
+      ∙ (λ k.
+      wipe_effect (other d) (full d) (λ i. i) d.mark.slot (are.are_staged k)
+      (idle_phase d size image kept are.idle k))
       ∙ (λ k.
       if are.plain k then refuses refusals.Sparse
       else wanting true

@@ -20,11 +20,13 @@ use Rattle.vab_builder.proofs.TableLaws.{plain_device}
 use Rattle.vab_model.specs.declared.command.Refusal.{Refusal}
 use Rattle.vab_model.specs.declared.command.Refusal.TheVariants as refusals
 use Rattle.vab_model.specs.Wipe.{filled_refusal}
+use Rattle.vab_device.specs.declared.device.Part.{Part}
 use Rattle.vab_device.specs.declared.device.Device.{Device}
 use Rattle.vab_device.specs.Kept.{IsDevice, IsTableOf, IsUpdate, AreParts, table_of_slot, lies_in}
-use Rattle.vab_device.specs.Kept.{parts_of, limits_of, has_slot, reads_both}
+use Rattle.vab_device.specs.Kept.{parts_of, limits_of, has_slot, reads_both, IsOverlay}
 use Rattle.vab_device.specs.Mounted.{table_placed, places_on}
 use Rattle.vab_device.specs.Updates.{layout_at, is_geometry, has_device}
+use Rattle.vab_device.proofs.OverlayLaws.{plain_none}
 use Rattle.vab_device.proofs.OwnParts.{parts_kept}
 use Rattle.vab_tidy.proofs.KeptLaws.{kept_table}
 use Rattle.vab_wipe.specs.Kept.{with_wiped}
@@ -164,6 +166,11 @@ module _
   slot_has slot =
       ap (λ (p : MarkPhase). has_slot p d.mark.slot slot) taken.are.idle
 
+  -- none of its partitions is overlaid
+  no_overlay : (parts : Option (List Part)) → IsOverlay size parts d.overlay
+  no_overlay parts =
+      subst (IsOverlay size parts) (sym (plain_none d size kept taken.are.bare)) tt
+
   of_a : d.mark.slot ≡ 0
       → IsDevice
       (record d {
@@ -181,7 +188,7 @@ module _
         control = kept.control;
         phase = kept.phase;
         slot = kept.slot;
-        apart = kept.apart;
+        flags = kept.flags;
         current = kept.current;
         has_a = sym (slot_has 0 ∙ ap (λ (n : ℕ). n == 0) e);
         has_b = kept.has_b;
@@ -206,6 +213,10 @@ module _
             (no_update (if other_slot d.mark.slot == 0 then Some u else d.table_b)
             (ap (λ (n : ℕ). is_some (if other_slot n == 0 then Some u else d.table_b)) e
             ∙ none));
+        overlaid = kept.overlaid;
+        overlay =
+            no_overlay
+            (if d.mark.slot == 0 then Some (parts_of d.mark.slot (layout_of u)) else d.b);
       }
 
   of_b : d.mark.slot ≡ 1
@@ -225,7 +236,7 @@ module _
         control = kept.control;
         phase = kept.phase;
         slot = kept.slot;
-        apart = kept.apart;
+        flags = kept.flags;
         current = kept.current;
         has_a = kept.has_a;
         has_b = sym (slot_has 1 ∙ ap (λ (n : ℕ). n == 1) e);
@@ -250,6 +261,10 @@ module _
             (no_update (if other_slot d.mark.slot == 0 then d.table_a else Some u)
             (ap (λ (n : ℕ). is_some (if other_slot n == 0 then d.table_a else Some u)) e
             ∙ none));
+        overlaid = kept.overlaid;
+        overlay =
+            no_overlay
+            (if d.mark.slot == 0 then d.a else Some (parts_of d.mark.slot (layout_of u)));
       }
 
   pub wiped_kept : IsDevice (with_wiped d u) size

@@ -180,7 +180,7 @@ module _
     reads_wiped =
         reads_idle size image (rephased marks.Idle d.mark) st.reads.enough
         (mark_same old image (before 2048 (omega arith)) ∙ st.reads.mark)
-        refl d.control d.geometry u
+        refl d.control d.geometry u refl
         (control_seen_in _ _ image d.control control)
         (geometry_same size old image (before 4104 (omega arith)) (before 4112 (omega arith))
         ∙ st.reads.geometry)

@@ -1,5 +1,6 @@
 -- What is decided of a wipe before it writes.
-use Rattle.std.specs.Prelude.{◌≡◌, ◌≤◌, Bool, true, false, ℕ, List, length, Option, Some, None}
+use Rattle.std.specs.Prelude.{◌≡◌, ◌≤◌, Bool, false, if◌then◌else◌, ℕ, List, length}
+use Rattle.std.specs.Prelude.{Option, Some, None}
 use Rattle.vab_disk.specs.Disk.{Image}
 use Rattle.vab_marks.specs.declared.mark.MarkPhase.TheVariants as marks
 use Rattle.vab_tables.specs.declared.table.Table.{Table}
@@ -14,6 +15,7 @@ use Rattle.vab_super_image.specs.SuperImage.{wiped_layout}
 use Rattle.vab_model.specs.declared.state.GroupLimit.{GroupLimit}
 use Rattle.vab_model.specs.declared.state.Phase.{Phase}
 use Rattle.vab_model.specs.declared.command.Refusal.{Refusal}
+use Rattle.vab_model.specs.declared.command.Refusal.TheVariants.{NotIdle}
 use Rattle.vab_model.specs.Effects.{Effect, refuses, wanting, unless_refused}
 use Rattle.vab_model.specs.Staged.{is_sparse}
 use Rattle.vab_model.specs.Wipe.{Judge, filled_refusal, wipe_effect}
@@ -33,10 +35,12 @@ other d = other_super (places_on d) d.mark.slot
 abbrev pub full : Device → Judge
 full d = full_super (places_on d)
 
--- The row of a wipe of the slot of the mark, where nothing is made of the image that is taken.
+-- The row of a wipe of the slot of the mark, where nothing is made of the image that is taken. An
+-- overlay refuses it as an update does.
 abbrev pub judged : Device → Option (List ℕ) → Phase → Effect SuperImage
 judged d staged phase =
-    wipe_effect (other d) (full d) (λ i. i) d.mark.slot staged phase
+    if d.mark.overlaid then refuses NotIdle
+    else wipe_effect (other d) (full d) (λ i. i) d.mark.slot staged phase
 
 -- this refusal, or where there is none a later one
 abbrev pub or_later : Option Refusal → Option Refusal → Option Refusal
@@ -57,9 +61,10 @@ pub record Refuses (d : Device) (staged : Option (List ℕ)) (r : Refusal) : Typ
 
 -- ---- what is taken
 
--- there is no update, and these bytes are staged, which are no sparse image
+-- there is neither an update nor an overlay, and these bytes are staged, which are no sparse image
 pub record AreTaken (d : Device) (staged : Option (List ℕ)) (bytes : List ℕ) : Type 0 where
   pub idle : d.mark.phase ≡ marks.Idle
+  pub bare : d.mark.overlaid ≡ false
   pub are_staged : staged ≡ Some bytes
   pub plain : is_sparse bytes ≡ false
 

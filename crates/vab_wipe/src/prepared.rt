@@ -35,7 +35,7 @@ pub struct Prepared {
     pub groups: Listing<GroupLimit>,
 }
 
-// The staged bytes, where there is no update.
+// The staged bytes, where there is neither an update nor an overlay.
 fn take<'a>(device: &Device, staged: Option<&'a [u8]>) -> Result<&'a [u8], Refusal>
     requires kept { (size : ℕ) × IsDevice device.now size }
     ensures taken { IfOk result
@@ -44,7 +44,7 @@ fn take<'a>(device: &Device, staged: Option<&'a [u8]>) -> Result<&'a [u8], Refus
         (λ r. judged device.now (option_map (λ s. s.now) staged.entry) (phase_on device.now image)
         ≡ refuses r) }
 {
-    if !device.mark.phase.is_idle() {
+    if device.mark.overlaid || !device.mark.phase.is_idle() {
         return Err(Refusal::NotIdle);
     }
     let bytes = match staged {

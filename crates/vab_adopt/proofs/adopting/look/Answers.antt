@@ -1,5 +1,6 @@
 use Rattle.std.proofs.Common.{◌∙◌, ◌<◌, ℕ, sym, ap, subst, arith}
 use Rattle.vab_disk.specs.Disk.{Image}
+use Rattle.vab_disk.proofs.CallLaws.{reads_then}
 use Rattle.vab_device.specs.Kept.{IsDevice}
 use Rattle.vab_device.specs.Mounted.{mounted_on}
 use Rattle.vab_recover.specs.Opened.{IsOpened, with_tables}
@@ -71,3 +72,10 @@ returns-clause-found g c = λ t.
           (omega (arith, kept.enough, c.check_none.ensures.reads.quiet.size))
           ∙ ap dropped_of (c.check_none.ensures.reads.seen t);
     }
+
+pub returns-clause-reads : goal.returns-clause-reads
+returns-clause-reads g c =
+    reads_then g.D.Disk c.args.d.now c.update_there.new.d c.read_adopted.new.d
+    (reads_then g.D.Disk c.args.d.now c.check_none.new.d c.update_there.new.d
+    c.check_none.ensures.reads c.update_there.ensures.reads)
+    c.read_adopted.ensures.reads

@@ -13,8 +13,22 @@ use Rattle.vab_device.proofs.PhaseCases.{idle_of, planned_of, unplanned_of, inst
 use Rattle.vab_device.proofs.PhaseCases.{staged_of}
 use Rattle.vab_device.proofs.PhaseCases.{merging_of}
 use Rattle.vab_begin.proofs.BegunLaws.{begin_refused, begin_staged, begin_merging, begin_is}
+use Rattle.vab_begin.proofs.BegunLaws.{begin_over}
 use Rattle.vab_begin.proofs.BegunLaws.{is_memory, refused_is}
 use Rattle.vab_begin.proofs.beginning.begin.Goals as goal
+
+pub returns-then-device-clause-does : goal.returns-then-device-clause-does
+returns-then-device-clause-does g c = λ staged.
+    let d = c.args.device in
+    let old = c.args.d.now in
+    let size = g.D.Disk.size old in
+    does_nothing g.D.Disk d staged (begin_of c.args.apart)
+    (IsOfBegun g.D.Disk.is_modelled c.args.apart d (g.D.Disk.seen old 4))
+    false
+    (replies.Refused refusals.NotIdle) old old c.requires.kept c.requires.represents
+    (λ t.
+    begin_over c.args.apart d size (g.D.Disk.seen old) staged c.requires.kept c.if-device.true)
+    (reads_none g.D.Disk old) refl
 
 pub returns-in-Installing-clause-does : goal.returns-in-Installing-clause-does
 returns-in-Installing-clause-does g c = λ staged.
@@ -72,7 +86,7 @@ returns-in-Err-clause-does g c = λ staged.
     (λ t.
     ap (λ (e : Effect Mounted). unless_refused (is_memory fault) e)
     (begin_is c.args.apart d size (g.D.Disk.seen old) staged for.source c.requires.kept
-    (idle_of d size c.requires.kept c.in-Idle.ensures) for.is)
+    (idle_of d size c.requires.kept c.in-Idle.ensures) c.if-device.false for.is)
     ∙ refused_is c.args.apart (mounted_on d (g.D.Disk.seen old)) d.mark.slot d.geometry.max
     for.source fault
     for.refused

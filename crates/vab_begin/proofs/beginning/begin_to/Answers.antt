@@ -41,14 +41,14 @@ returns-in-Err-clause-does g c = λ staged.
     let dead = λ (t : told).
     dead_means d size (g.D.Disk.seen old) V (c.requires.represents t)
     (begin_dead told apart text size (g.D.Disk.seen old) d c.requires.kept (c.requires.represents t)
-    c.requires.idle short) in
+    c.requires.idle c.requires.plain short) in
     let within = λ (t : told).
     places_in apart d x c.requires.target text c.as_slice-text.ensures told bytes c.requires.idle in
     fails_dead g.D.Disk d staged (begin_of apart) (IsOfBegun told apart d bytes) old mid V dead
     c.prepare_begin.ensures.touches within _
     (λ t.
     begin_follows apart d size (g.D.Disk.seen old) staged x c.requires.kept c.requires.idle
-    c.requires.target)
+    c.requires.plain c.requires.target)
     c.in-Err.ensures.faults.cause
 
 pub returns-in-Err-put_mark-clause-does : goal.returns-in-Err-put_mark-clause-does
@@ -67,12 +67,12 @@ returns-in-Err-put_mark-clause-does g c = λ staged.
     let dead = λ (t : told).
     dead_means d size (g.D.Disk.seen old) V (c.requires.represents t)
     (begin_dead told apart text size (g.D.Disk.seen old) d c.requires.kept (c.requires.represents t)
-    c.requires.idle short) in
+    c.requires.idle c.requires.plain short) in
     let within = λ (t : told).
     places_in apart d x c.requires.target text c.as_slice-text.ensures told bytes c.requires.idle in
     let step = λ (t : told).
     begin_step told apart text size (g.D.Disk.seen old) d c.requires.kept (c.requires.represents t)
-    c.requires.idle short x (g.D.Disk.seen mid) c.requires.target
+    c.requires.idle c.requires.plain short x (g.D.Disk.seen mid) c.requires.target
     (c.prepare_begin.ensures.touches.seen t)
     (record {
       control = (c.in-Ok.ensures.control t).control;
@@ -116,12 +116,12 @@ returns-in-Ok-put_mark-clause-does g c = λ staged.
     let dead = λ (t : told).
     dead_means d size (g.D.Disk.seen old) V (c.requires.represents t)
     (begin_dead told apart text size (g.D.Disk.seen old) d c.requires.kept (c.requires.represents t)
-    c.requires.idle short) in
+    c.requires.idle c.requires.plain short) in
     let within = λ (t : told).
     places_in apart d x c.requires.target text c.as_slice-text.ensures told bytes c.requires.idle in
     let step = λ (t : told).
     begin_step told apart text size (g.D.Disk.seen old) d c.requires.kept (c.requires.represents t)
-    c.requires.idle short x (g.D.Disk.seen mid) c.requires.target
+    c.requires.idle c.requires.plain short x (g.D.Disk.seen mid) c.requires.target
     (c.prepare_begin.ensures.touches.seen t)
     (record {
       control = (c.in-Ok.ensures.control t).control;
@@ -156,7 +156,8 @@ returns-in-Ok-put_mark-clause-does g c = λ staged.
     (λ (m : UpdateMark). Touches g.D.Disk (IsAt 2048 (mark_spelling m)) mid c.put_mark.new.d)
     c.begun-mark.ensures c.put_mark.ensures.touches)
     (mark_in apart d x c.requires.target text c.as_slice-text.ensures told bytes c.requires.idle)
-    (begun_kept apart d size x c.requires.kept c.requires.idle c.requires.target)
+    (begun_kept apart d size x c.requires.kept c.requires.idle c.requires.plain
+    c.requires.target)
     (record { geometry = refl; slot = refl; parts = refl })
     (subst
     (λ (m : UpdateMark). told

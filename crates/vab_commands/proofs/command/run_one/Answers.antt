@@ -171,6 +171,24 @@ returns-in-Merge g c =
     c.args.command.now _ _ _ c.in-Merge.is
     (c.merge.ensures (option_map (λ s. s.now) c.args.staged))
 
+pub returns-in-Overlay : goal.returns-in-Overlay
+returns-in-Overlay g c =
+    of g.D.Disk c.args.device (option_map (λ s. s.now) c.args.staged) c.args.d.now
+    c.args.command.now _ _ _ c.in-Overlay.is
+    (c.overlay.ensures (option_map (λ s. s.now) c.args.staged))
+
+pub returns-in-OverlayWrite : goal.returns-in-OverlayWrite
+returns-in-OverlayWrite g c =
+    of g.D.Disk c.args.device (option_map (λ s. s.now) c.args.staged) c.args.d.now
+    c.args.command.now _ _ _ c.in-OverlayWrite.is
+    c.overlay_write.ensures
+
+pub returns-in-OverlayDiscard : goal.returns-in-OverlayDiscard
+returns-in-OverlayDiscard g c =
+    of g.D.Disk c.args.device (option_map (λ s. s.now) c.args.staged) c.args.d.now
+    c.args.command.now _ _ _ c.in-OverlayDiscard.is
+    (c.overlay_discard.ensures (option_map (λ s. s.now) c.args.staged))
+
 pub returns-in-Ok : goal.returns-in-Ok
 unfolding machine_effect
 returns-in-Ok g c =

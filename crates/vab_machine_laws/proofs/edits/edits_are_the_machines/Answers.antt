@@ -5,6 +5,7 @@ use Rattle.vab_machine_laws.proofs.Creates.{create_is}
 use Rattle.vab_machine_laws.proofs.Deletes.{delete_is}
 use Rattle.vab_machine_laws.proofs.Snapshots.{snapshot_is}
 use Rattle.vab_machine_laws.proofs.Resizes.{resize_is}
+use Rattle.vab_machine_laws.proofs.Overlays.{overlay_is}
 use Rattle.vab_machine_laws.proofs.edits.edits_are_the_machines.Goals as goal
 
 pub returns-clause-begin : goal.returns-clause-begin
@@ -24,3 +25,6 @@ returns-clause-resize c = resize_is edits_follow
 
 pub returns-clause-create : goal.returns-clause-create
 returns-clause-create c = create_is edits_follow
+
+pub returns-clause-overlay : goal.returns-clause-overlay
+returns-clause-overlay c = overlay_is

@@ -38,7 +38,7 @@ returns-in-Ok-clause-image c = λ seen.
     let name = c.args.name.now in
     let p = c.in-Ok.part.now in (
       image_on seen p,
-      found_is d seen name ∙ ap (found_by seen) c.in-Ok.ensures,
+      found_is d c.requires.kept.0 seen name c.requires.kept.1 ∙ ap (found_by seen) c.in-Ok.ensures,
       p,
       keeps d
           c.slot_named.result name p c.slot_named.ensures c.in-Ok.ensures,
@@ -46,5 +46,6 @@ returns-in-Ok-clause-image c = λ seen.
     )
 
 pub returns-in-Err-clause-refused : goal.returns-in-Err-clause-refused
-returns-in-Err-clause-refused c = λ seen. found_is c.args.device.now seen c.args.name.now
+returns-in-Err-clause-refused c = λ seen.
+    found_is c.args.device.now c.requires.kept.0 seen c.args.name.now c.requires.kept.1
     ∙ ap (found_by seen) c.in-Err.ensures

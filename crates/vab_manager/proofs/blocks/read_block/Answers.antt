@@ -37,5 +37,6 @@ returns-clause-bytes g c = λ t.
     (block_is c.args.device.now (g.D.Disk.size d) (g.D.Disk.seen d) c.args.slot c.args.name.now p
     c.args.block c.read_part.new.out c.requires.kept
     (λ s lt. (g.met.D.Disk.whole d s (g.D.Disk.seen d s) lt (g.met.D.Disk.seen_held d s)).long)
-    kept (below c.args.device.now c.args.slot c.args.name.now c.args.block p kept c.requires.block))
+    c.requires.slot kept
+    (below c.args.device.now c.args.slot c.args.name.now c.args.block p kept c.requires.block))
     (c.read_part.ensures.bytes t)

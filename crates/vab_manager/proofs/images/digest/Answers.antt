@@ -14,12 +14,12 @@ digest_of-requires g c =
 
 pub returns-in-Err-clause-reply : goal.returns-in-Err-clause-reply
 returns-in-Err-clause-reply g c = λ t.
-    digest_is c.args.device.now (g.D.Disk.seen c.args.d.now) c.args.name.now
-    (Err c.in-Err.refusal) c.in-Err.ensures
+    digest_is c.args.device.now (g.D.Disk.size c.args.d.now) (g.D.Disk.seen c.args.d.now)
+    c.args.name.now (Err c.in-Err.refusal) c.requires.kept c.in-Err.ensures
 
 pub returns-in-Ok-digest_of-clause-reply : goal.returns-in-Ok-digest_of-clause-reply
 returns-in-Ok-digest_of-clause-reply g c = λ t.
-    digest_is c.args.device.now (g.D.Disk.seen c.args.d.now) c.args.name.now
-    (Ok c.in-Ok.part.now) c.in-Ok.ensures
+    digest_is c.args.device.now (g.D.Disk.size c.args.d.now) (g.D.Disk.seen c.args.d.now)
+    c.args.name.now (Ok c.in-Ok.part.now) c.requires.kept c.in-Ok.ensures
     ∙ sym (ap (λ (r : Reply). (let e : Effect Mounted = answers r in e))
     (ap replies.Digest (c.in-Ok-digest_of.ensures.digest t)))

@@ -66,10 +66,11 @@ returns-clause-is c =
           c.as_slice.ensures c.index-as_slice-0.is);
       groups = c.in_ok-groups.ensures.limits;
       a = c.by_slot-a.ensures.a
-          ∙ slot_is m 0 t c.args.through own other c.in_ok-divided.ensures.own
+          ∙ slot_is m 0 t c.args.stored.through own other c.in_ok-divided.ensures.own
           c.in_ok-divided.ensures.other;
       b = c.by_slot-a.ensures.b
-          ∙ slot_is m 1 t c.args.through own other c.in_ok-divided.ensures.own
+          ∙ slot_is m 1 t c.args.stored.through own other c.in_ok-divided.ensures.own
           c.in_ok-divided.ensures.other;
       plan = c.in_ok-divided.ensures.plan;
+      overlay = refl;
     }

@@ -34,6 +34,11 @@ use Rattle.vab_commands.specs.Copies.{HasBothCopies}
 use Rattle.vab_session.proofs.WrittenLaws.{saying_same, written_before, written_nothing}
 use Rattle.vab_session.proofs.session.hold_session.Goals as goal
 
+-- what is promised of an Ok
+where_ok : {A E : Type 0} (r : Result A E) (P : Type 0) → is_err r ≡ false → OnOk r P → P
+where_ok (Ok x) P okay is = is
+where_ok (Err e) P okay is = absurd (let bad : true ≡ false = okay in cc)
+
 pub returns-then-is_err-clause-serves : goal.returns-then-is_err-clause-serves
 returns-then-is_err-clause-serves g c = λ t.
     let old = c.args.p.now in
@@ -105,7 +110,9 @@ returns-in-Err-clause-serves g c = λ t.
     let listens = c.hello.ensures.listens in
     let left = c.say_all.ensures.left t in
     let there = device_stands c.args.device N image (c.requires.stands t) in
-    let said : g.P.Disk.told mid ≡ g.P.Disk.told old ++ codes "FB01" = search rules in
+    let said : g.P.Disk.told mid ≡ g.P.Disk.told old ++ codes "FB01" =
+    where_ok c.say_all.result (g.P.Disk.told mid ≡ g.P.Disk.told old ++ codes "FB01")
+    (sym c.is_err.ensures.value ∙ c.if-is_err.false) (c.say_all.ensures.told t) in
     let rest : rest_of r lp ≡ take most input =
     c.new-reader.ensures.rest lp ∙ ap (take most) left in
     let beyond : beyond_of r lp ≡ drop most input =
@@ -146,7 +153,9 @@ returns-in-Err-clause-serves g c = λ t.
 
 pub returns-in-Err-clause-cause : goal.returns-in-Err-clause-cause
 returns-in-Err-clause-cause g c =
-    let steady : g.P.Disk.faults c.say_all.new.p ≡ g.P.Disk.faults c.args.p.now = search rules in
+    let steady : g.P.Disk.faults c.say_all.new.p ≡ g.P.Disk.faults c.args.p.now =
+    where_ok c.say_all.result (g.P.Disk.faults c.say_all.new.p ≡ g.P.Disk.faults c.args.p.now)
+    (sym c.is_err.ensures.value ∙ c.if-is_err.false) c.say_all.ensures.steady in
     subst
     (λ (e : SessionFault).
     HasCause {A = Ended × Device} g.P.Disk c.args.p.now c.hello.new.p (Err e))
@@ -162,11 +171,6 @@ dropped_byte : (l : List ℕ) (n : ℕ) → AreBytes l → AreBytes (drop n l)
 dropped_byte l n are k =
     let at : get_or (drop n l) k 0 ≡ get_or l (n + k) 0 = get_or-drop n l k 0 in
     omega (arith, are (n + k), at)
-
--- what is promised of an Ok
-where_ok : {A E : Type 0} (r : Result A E) (P : Type 0) → is_err r ≡ false → OnOk r P → P
-where_ok (Ok x) P okay is = is
-where_ok (Err e) P okay is = absurd (let bad : true ≡ false = okay in cc)
 
 pub returns-clause-serves : goal.returns-clause-serves
 returns-clause-serves g c = λ t.

@@ -49,7 +49,8 @@ module _ {D : Type 0} (g : Ghosts D) (d : Device) (x : Alone) (text : List ℕ) 
   n = text_sectors (length text)
 
   st : g.is_modelled → StandsIdle d (g.size old) (g.seen old) a.table
-  st t = stands_idle d (g.size old) (g.seen old) a.table dev.slot a.idle a.is (is t)
+  st t = stands_idle d (g.size old) (g.seen old) a.table dev.slot a.idle a.plain a.is
+      (is t)
 
   lies : lies_in (g.size old) d.geometry (layout_of a.table).device ≡ true
   lies = (kept_table d (g.size old) a.table dev a.is).lies

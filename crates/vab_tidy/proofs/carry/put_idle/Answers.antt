@@ -1,5 +1,5 @@
 use Rattle.std.proofs.Common.{◌≡◌, ◌≢◌, ◌∙◌, inl, inr, ⊎_elim, ℕ, List, Ok, refl, sym, ap, subst}
-use Rattle.std.specs.Prelude.{Some}
+use Rattle.std.specs.Prelude.{Some, false}
 use Rattle.vab_disk.specs.declared.disk.Disk.{Ghosts}
 use Rattle.vab_disk.specs.Disk.{Image, Adds, LeavesEither, IsAt, set_sector}
 use Rattle.vab_disk.specs.Calls.{IsAtRest, Touches}
@@ -28,6 +28,7 @@ module _ {D : Type 0} (g : Ghosts D) (d : Device) (bytes : List ℕ) (old new : 
     (dev : IsDevice d (g.size old))
     (is : g.is_modelled → Represents d (g.size old) (g.seen old))
     (idle : d.mark.phase ≡ marks.Idle)
+    (plain : d.mark.overlaid ≡ false)
     (read : mark_of bytes ≡ Ok (rephased marks.Idle d.mark))
     (two : version_in bytes ≡ Two) where
   abbrev after : Image
@@ -37,7 +38,7 @@ module _ {D : Type 0} (g : Ghosts D) (d : Device) (bytes : List ℕ) (old new : 
   own = has_table d (g.size old) dev
 
   st : g.is_modelled → StandsIdle d (g.size old) (g.seen old) own.0
-  st t = stands_idle d (g.size old) (g.seen old) own.0 dev.slot idle own.1 (is t)
+  st t = stands_idle d (g.size old) (g.seen old) own.0 dev.slot idle plain own.1 (is t)
 
   elsewhere : (s : ℕ) → s ≢ 2048 → after s ≡ g.seen old s
   elsewhere s other = set_there (g.seen old) 2048 bytes s other
@@ -88,7 +89,7 @@ module _ {D : Type 0} (g : Ghosts D) (d : Device) (bytes : List ℕ) (old new : 
           × IsTableText d.geometry.max text own.0
           × BothHold d.geometry d.mark.slot text after
       copy =
-          (stands_idle d (g.size old) after own.0 dev.slot idle own.1 (represents t)).copies.0
+          (stands_idle d (g.size old) after own.0 dev.slot idle plain own.1 (represents t)).copies.0
 
       held : (u : Table) → own.0 ≡ u → slot_table d.geometry d.mark.slot after ≡ Ok u
       held u e =
@@ -126,11 +127,13 @@ returns-in-Err-clause-stays g c =
           c.put_gate.ensures.touches;
       time =
           time g.D.Disk c.args.device _ old new c.requires.kept c.requires.represents
-          c.requires.idle (c.encode_mark.ensures.decoded ∙ ap Ok c.with_phase-mark.ensures)
+          c.requires.idle c.requires.plain
+          (c.encode_mark.ensures.decoded ∙ ap Ok c.with_phase-mark.ensures)
           c.encode_mark.ensures.version c.put_gate.ensures.gate;
       order =
           order g.D.Disk c.args.device _ old new c.requires.kept c.requires.represents
-          c.requires.idle (c.encode_mark.ensures.decoded ∙ ap Ok c.with_phase-mark.ensures)
+          c.requires.idle c.requires.plain
+          (c.encode_mark.ensures.decoded ∙ ap Ok c.with_phase-mark.ensures)
           c.encode_mark.ensures.version c.put_gate.ensures.gate;
       faults = record { steady = tt; cause = c.in-Err.ensures.faults.cause };
     }
@@ -149,11 +152,11 @@ returns-in-Ok-clause-stays g c =
           subst (λ (i : Image). Represents d (g.D.Disk.size old) i)
           (sym (c.in-Ok.ensures.written t))
           (represents g.D.Disk d _ old new c.requires.kept c.requires.represents c.requires.idle
-          read two t);
+          c.requires.plain read two t);
       same = λ t.
           ap (device (g.D.Disk.size old)) (c.in-Ok.ensures.written t)
           ∙ means g.D.Disk d _ old new c.requires.kept c.requires.represents c.requires.idle
-          read two t;
+          c.requires.plain read two t;
       settled = λ t rest. c.in-Ok.ensures.settled t;
       quiet = c.put_gate.ensures.touches.quiet;
       touches =
@@ -161,10 +164,10 @@ returns-in-Ok-clause-stays g c =
           (c.encode_mark.ensures.spelled ∙ ap mark_spelling c.with_phase-mark.ensures)
           c.put_gate.ensures.touches;
       time =
-          time g.D.Disk d _ old new c.requires.kept c.requires.represents c.requires.idle read two
-          c.put_gate.ensures.gate;
+          time g.D.Disk d _ old new c.requires.kept c.requires.represents c.requires.idle
+          c.requires.plain read two c.put_gate.ensures.gate;
       order =
-          order g.D.Disk d _ old new c.requires.kept c.requires.represents c.requires.idle read two
-          c.put_gate.ensures.gate;
+          order g.D.Disk d _ old new c.requires.kept c.requires.represents c.requires.idle
+          c.requires.plain read two c.put_gate.ensures.gate;
       faults = record { steady = c.in-Ok.ensures.faults.steady; cause = tt };
     }

@@ -16,6 +16,14 @@ returns-then-not-is_idle-clause-due g c = λ t k is.
     idle ∙ sym c.is_idle.ensures ∙ c.if-not-is_idle.true in
     cc
 
+pub returns-then-mark-clause-due : goal.returns-then-mark-clause-due
+returns-then-mark-clause-due g c = λ t k is.
+    let same = completed_is k c.args.mark.now (g.D.Disk.seen c.args.d.now) (c.requires.mark t)
+    is in
+    let none : true ≡ false =
+    sym c.if-mark.true ∙ ap (λ (m : UpdateMark). m.overlaid) same in
+    cc
+
 pub returns-in-Ok-clause-due : goal.returns-in-Ok-clause-due
 returns-in-Ok-clause-due g c = λ t.
     let said : says_completed (mark_of (g.D.Disk.seen c.args.d.now 2048)) ≡ true =

@@ -1,0 +1,13 @@
+//! What an overlay leaves of a device.
+ghost use Rattle.vab_boots.specs.Overlaid.{StepsLeaveTheRest, OverlaysLeaveTheRest};
+ghost use Rattle.vab_boots.specs.Overlaid.{DiscardGivesBack};
+
+/// The commands of an overlay change nothing of a device but the overlay: at each step of one, and
+/// behind any list of them, with any staged bytes, the images of both slots, the groups, boot
+/// control, the phase and the tables' layouts are as before. A discard that is done behind any of
+/// them gives a device that had no overlay back as it was.
+pub fn overlay_leaves_the_device()
+    ensures steps { StepsLeaveTheRest }
+    ensures lists { OverlaysLeaveTheRest }
+    ensures discard { DiscardGivesBack }
+{}

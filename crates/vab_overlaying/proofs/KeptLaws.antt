@@ -1,0 +1,205 @@
+-- The devices that are kept as an overlay begins.
+use Rattle.std.proofs.Common.{◌≡◌, ◌∙◌, inl, inr, ℕ, ◌<◌, true, false, List, refl, sym, ap, subst}
+use Rattle.std.specs.Prelude.{◌==◌, if◌then◌else◌, Bool, Option, Some, None, is_some}
+use Rattle.vab_marks.specs.declared.mark.MarkPhase.{MarkPhase}
+use Rattle.vab_marks.specs.declared.mark.MarkPhase.TheVariants as marks
+use Rattle.vab_tables.specs.declared.table.Table.{Table}
+use Rattle.vab_layout.specs.Layout.{layout_of}
+use Rattle.vab_layout.specs.Slots.{other_slot}
+use Rattle.vab_layout.proofs.LayoutLaws.{layout_keeps}
+use Rattle.vab_device.specs.declared.device.Part.{Part}
+use Rattle.vab_device.specs.declared.device.Device.{Device}
+use Rattle.vab_device.specs.Kept.{IsDevice, IsTableOf, IsUpdate, AreParts, IsOverlay, IsOverlaidOn}
+use Rattle.vab_device.specs.Kept.{table_of_slot, parts_of, parts_at, has_slot}
+use Rattle.vab_device.specs.Kept.{reads_both, is_installing}
+use Rattle.vab_device.proofs.OverlayLaws.{plain_none}
+use Rattle.vab_device.proofs.OwnParts.{parts_kept}
+use Rattle.vab_device.proofs.PhaseCases.{cases_slot}
+use Rattle.vab_overlaying.specs.Begun.{with_table, over_part, over_device, IsOver}
+use Rattle.vab_overlaying.proofs.HeadLaws.{kept_table}
+use Rattle.vab_overlaying.proofs.OverlaidLaws.{is_overlaid_on}
+
+no_update : (apart : Bool) (source : ℕ) (s t : Option Table)
+    → is_some t ≡ false
+    → IsUpdate apart source s t
+no_update apart source None t none = tt
+no_update apart source (Some s) None none = tt
+no_update apart source (Some s) (Some t) none = absurd (let no : true ≡ false = none in cc)
+
+-- ---- with the table that has the store
+
+module _
+    (d : Device) (size : ℕ) (u : Table)
+    (kept : IsDevice d size)
+    (idle : d.mark.phase ≡ marks.Idle)
+    (plain : d.mark.overlaid ≡ false)
+    (new_table : IsTableOf size d.geometry d.mark.slot u) where
+  new_parts : AreParts size (parts_of d.mark.slot (layout_of u))
+  new_parts =
+      parts_kept size d.mark.slot d.geometry (layout_of u) kept.enough
+      (layout_keeps u new_table.rules) new_table.own new_table.lies
+
+  -- the other slot has no table
+  no_other : is_some (table_of_slot d (other_slot d.mark.slot)) ≡ false
+  no_other = kept.target ∙ ap reads_both idle
+
+  slot_has : (slot : ℕ) → has_slot d.mark.phase d.mark.slot slot ≡ (d.mark.slot == slot)
+  slot_has slot = ap (λ (p : MarkPhase). has_slot p d.mark.slot slot) idle
+
+  bare : (parts : Option (List Part)) → IsOverlay size parts d.overlay
+  bare parts =
+      subst (λ (o : Option Part). IsOverlay size parts o) (sym (plain_none d size kept plain)) tt
+
+  of_a : d.mark.slot ≡ 0
+      → IsDevice
+      (record d { a = Some (parts_of d.mark.slot (layout_of u)); table_a = Some u })
+      size
+  of_a e =
+      let none : is_some d.table_b ≡ false =
+      ap (λ (n : ℕ). is_some (table_of_slot d (other_slot n))) (sym e) ∙ no_other in
+      record {
+        enough = kept.enough;
+        geometry = kept.geometry;
+        control = kept.control;
+        phase = kept.phase;
+        slot = kept.slot;
+        flags = kept.flags;
+        current = kept.current;
+        has_a = sym (slot_has 0 ∙ ap (λ (n : ℕ). n == 0) e);
+        has_b = kept.has_b;
+        copies_on = kept.copies_on;
+        parts_a = new_parts;
+        parts_b = kept.parts_b;
+        table_a = subst (λ (n : ℕ). IsTableOf size d.geometry n u) e new_table;
+        table_b = kept.table_b;
+        source = ap (λ (n : ℕ). is_some (if n == 0 then Some u else d.table_b)) e;
+        target =
+            ap (λ (n : ℕ). is_some (if other_slot n == 0 then Some u else d.table_b)) e
+            ∙ none
+            ∙ sym (ap reads_both idle);
+        planned = kept.planned;
+        plan = kept.plan;
+        update =
+            no_update d.mark.apart d.mark.slot
+            (if d.mark.slot == 0 then Some u else d.table_b)
+            (if other_slot d.mark.slot == 0 then Some u else d.table_b)
+            (ap (λ (n : ℕ). is_some (if other_slot n == 0 then Some u else d.table_b)) e
+            ∙ none);
+        overlaid = kept.overlaid;
+        overlay = bare _;
+      }
+
+  of_b : d.mark.slot ≡ 1
+      → IsDevice
+      (record d { b = Some (parts_of d.mark.slot (layout_of u)); table_b = Some u })
+      size
+  of_b e =
+      let none : is_some d.table_a ≡ false =
+      ap (λ (n : ℕ). is_some (table_of_slot d (other_slot n))) (sym e) ∙ no_other in
+      record {
+        enough = kept.enough;
+        geometry = kept.geometry;
+        control = kept.control;
+        phase = kept.phase;
+        slot = kept.slot;
+        flags = kept.flags;
+        current = kept.current;
+        has_a = kept.has_a;
+        has_b = sym (slot_has 1 ∙ ap (λ (n : ℕ). n == 1) e);
+        copies_on = kept.copies_on;
+        parts_a = kept.parts_a;
+        parts_b = new_parts;
+        table_a = kept.table_a;
+        table_b = subst (λ (n : ℕ). IsTableOf size d.geometry n u) e new_table;
+        source = ap (λ (n : ℕ). is_some (if n == 0 then d.table_a else Some u)) e;
+        target =
+            ap (λ (n : ℕ). is_some (if other_slot n == 0 then d.table_a else Some u)) e
+            ∙ none
+            ∙ sym (ap reads_both idle);
+        planned = kept.planned;
+        plan = kept.plan;
+        update =
+            no_update d.mark.apart d.mark.slot
+            (if d.mark.slot == 0 then d.table_a else Some u)
+            (if other_slot d.mark.slot == 0 then d.table_a else Some u)
+            (ap (λ (n : ℕ). is_some (if other_slot n == 0 then d.table_a else Some u)) e
+            ∙ none);
+        overlaid = kept.overlaid;
+        overlay = bare _;
+      }
+
+  pub table_kept : IsDevice (with_table d u) size
+  table_kept = elim (cases_slot d.mark.slot kept.slot) [
+    | inl e ↦ rw (ap (λ (n : ℕ). n == 0) e) (of_a e)
+    | inr e ↦ rw (ap (λ (n : ℕ). n == 0) e) (of_b e)
+  ]
+
+-- what the device with the table has
+pub table_now : (d : Device) (u : Table)
+    → d.mark.slot < 2
+    → table_of_slot (with_table d u) (with_table d u).mark.slot ≡ Some u
+table_now d u below = elim (cases_slot d.mark.slot below) [
+  | inl e ↦ let is = ap (λ (n : ℕ). n == 0) e in rw is (rw is refl)
+  | inr e ↦ let is = ap (λ (n : ℕ). n == 0) e in rw is (rw is refl)
+]
+
+pub parts_now : (d : Device) (u : Table)
+    → d.mark.slot < 2
+    → parts_at (with_table d u) (with_table d u).mark.slot
+    ≡ Some (parts_of d.mark.slot (layout_of u))
+parts_now d u below = elim (cases_slot d.mark.slot below) [
+  | inl e ↦ let is = ap (λ (n : ℕ). n == 0) e in rw is (rw is refl)
+  | inr e ↦ let is = ap (λ (n : ℕ). n == 0) e in rw is (rw is refl)
+]
+
+pub mark_now : (d : Device) (u : Table) → d.mark.slot < 2 → (with_table d u).mark ≡ d.mark
+mark_now d u below = elim (cases_slot d.mark.slot below) [
+  | inl e ↦ rw (ap (λ (n : ℕ). n == 0) e) refl
+  | inr e ↦ rw (ap (λ (n : ℕ). n == 0) e) refl
+]
+
+-- ---- with the partition overlaid
+
+pub over_kept : (d : Device) (size : ℕ) (p : Part) (store : List ℕ)
+    → IsDevice d size
+    → IsOver d p store
+    → IsDevice (over_device d p store) size
+over_kept d size p store kept over =
+    let t : Table = over.table in
+    let has : (slot : ℕ) → has_slot d.mark.phase d.mark.slot slot
+    ≡ has_slot marks.Idle d.mark.slot slot =
+    λ slot. ap (λ (ph : MarkPhase). has_slot ph d.mark.slot slot) over.idle in
+    let on : IsOverlaidOn size (parts_of d.mark.slot (layout_of t)) (over_part p store) =
+    subst (λ (q : Part). IsOverlaidOn size (parts_of d.mark.slot (layout_of t)) q)
+    (λ i. over_part (sym over.part i) (sym over.stored i))
+    (is_overlaid_on size d.mark.slot d.geometry t kept.enough
+    (kept_table d size t kept over.is) over.over over.by over.two) in
+    record {
+      enough = kept.enough;
+      geometry = kept.geometry;
+      control = kept.control;
+      phase = inl refl;
+      slot = kept.slot;
+      flags = (refl, refl);
+      current = sym (has d.control.current) ∙ kept.current;
+      has_a = kept.has_a ∙ has 0;
+      has_b = kept.has_b ∙ has 1;
+      copies_on = kept.copies_on;
+      parts_a = kept.parts_a;
+      parts_b = kept.parts_b;
+      table_a = kept.table_a;
+      table_b = kept.table_b;
+      source = kept.source;
+      target = kept.target ∙ ap reads_both over.idle;
+      planned = kept.planned ∙ ap is_installing over.idle;
+      plan = kept.plan;
+      update =
+          no_update false d.mark.slot
+          (table_of_slot d d.mark.slot)
+          (table_of_slot d (other_slot d.mark.slot))
+          (kept.target ∙ ap reads_both over.idle);
+      overlaid = refl;
+      overlay =
+          subst (λ (ps : Option (List Part)). IsOverlay size ps (Some (over_part p store)))
+          (sym over.parts) on;
+    }

@@ -1,0 +1,283 @@
+-- A table that is the same without stores in place of the slot's: all that the disk means stays.
+use Rattle.std.proofs.Common.{◌≡◌, ◌∙◌, inl, inr, ⊎_elim, ℕ, zero, suc, ◌+◌, ◌≤◌, ◌<◌}
+use Rattle.std.proofs.Common.{true, List, [], Ok, refl, sym, ap, arith}
+use Rattle.std.specs.Prelude.{◌==◌, ◌*◌, ◌/◌, Some, None}
+use Rattle.std.proofs.Math.Nat.{mul-le-mul_right}
+use Rattle.std.proofs.lemmas.Bool.{cases_Bool}
+use Rattle.vab_disk.specs.Disk.{Image, Outcome}
+use Rattle.vab_bootctl.specs.declared.slots.Control.{Control}
+use Rattle.vab_bootctl.specs.Control.{control_of}
+use Rattle.vab_marks.specs.declared.mark.MarkPhase.TheVariants as marks
+use Rattle.vab_marks.specs.declared.mark.UpdateMark.{UpdateMark}
+use Rattle.vab_marks.specs.Mark.{rephased, resloted}
+use Rattle.vab_geometry.specs.declared.geometry.Geometry.{Geometry}
+use Rattle.vab_geometry.specs.Geometry.{IsGeometry}
+use Rattle.vab_tables.specs.declared.table.Table.{Table}
+use Rattle.vab_tables.specs.Text.{IsTableText}
+use Rattle.vab_lpstore.specs.Layout.{copy_sectors, primary_of, backup_of, BothHold}
+use Rattle.vab_lpstore.specs.Loading.{slot_table}
+use Rattle.vab_lpstore.specs.Storing.{SameElsewhere, LeavesEitherTable}
+use Rattle.vab_lpstore.proofs.StoreLaws.{copies_apart, both_table, backup_byte}
+use Rattle.vab_layout.specs.Layout.{layout_of}
+use Rattle.vab_layout.specs.Plain.{plain}
+use Rattle.vab_partitions.specs.Rules.{bad_part}
+use Rattle.vab_device.specs.declared.device.Device.{Device}
+use Rattle.vab_device.specs.Checks.{names_none}
+use Rattle.vab_device.specs.Kept.{lies_in, parts_of, copies_end, super_bytes}
+use Rattle.vab_device.specs.Mounted.{images_on, mounted_on, state_on}
+use Rattle.vab_device.specs.Phases.{own_check}
+use Rattle.vab_device.specs.Reading.{Read, kept, device, Reads, Represents, table_at, table_read}
+use Rattle.vab_device.specs.Reading.{version_at, most_at}
+use Rattle.vab_device.proofs.Behind.{images_behind}
+use Rattle.vab_device.proofs.CheckLaws.{first_kept}
+use Rattle.vab_device.proofs.IdleLaws.{reads_idle}
+use Rattle.vab_device.proofs.OpeningLaws.{control_seen_in}
+use Rattle.vab_device.proofs.ReadingLaws.{device_of, device_same, device_stands, single_works}
+use Rattle.vab_device.proofs.RepairLaws.{end_of, ends_within, repair_same}
+use Rattle.vab_device.proofs.MostLaws.{parts_under}
+use Rattle.vab_device.proofs.SameLaws.{mark_same, geometry_same, images_same, version_same}
+use Rattle.vab_device.proofs.UpdateLaws.{kept_with}
+use Rattle.vab_overlaying.specs.Begun.{with_table}
+use Rattle.vab_overlaying.proofs.BehindLaws.{LeavesMounted}
+use Rattle.vab_overlaying.proofs.PlainLaws.{read_at, StandsPlain, device_is, own_is, parts_are}
+use Rattle.vab_overlaying.proofs.PlainLaws.{cap_is, limits_are}
+
+table_is : (size : ℕ) (g : Geometry) (slot : ℕ) (image : Image) (t : Table)
+    → slot_table g slot image ≡ Ok t
+    → lies_in size g (layout_of t).device ≡ true
+    → table_at size g slot image ≡ Ok t
+unfolding table_at
+table_is size g slot image t said lies = ap (table_read size g slot) said ∙ rw lies refl
+
+-- both copies of a slot's table are on the disk where all copies are
+pub copies_on_disk : (g : Geometry) (slot size : ℕ)
+    → IsGeometry g
+    → slot < 2
+    → copies_end g ≤ super_bytes size
+    → backup_of g slot + copy_sectors g ≤ size
+copies_on_disk g slot size rules below on =
+    let whole : 512 * (g.max / 512) ≡ g.max = omega (arith, rules.sectors) in
+    let byte = backup_byte g slot rules in
+    let most : (g.slots + slot + 1) * g.max ≤ (2 * g.slots) * g.max =
+    mul-le-mul_right g.max (omega (arith, rules.two, below)) in
+    omega (arith, whole, byte, most, on, rules.least)
+
+-- the kept device of the new table
+kept_stored : (m : UpdateMark) (slot : ℕ) (c seen : Control) (g : Geometry) (t u : Table)
+    → slot < 2
+    → plain slot (layout_of u) ≡ plain slot (layout_of t)
+    → with_table (kept_with (read_at (resloted slot m) seen g t) c) u
+    ≡ kept_with (read_at (resloted slot m) seen g u) c
+kept_stored m zero c seen g t u below is =
+    (λ i. record (kept_with (read_at (resloted 0 m) seen g u) c) {
+      cap = sym (cap_is 0 t u is) i;
+      groups = sym (limits_are 0 t u is) i;
+    })
+kept_stored m (suc zero) c seen g t u below is =
+    (λ i. record (kept_with (read_at (resloted 1 m) seen g u) c) {
+      cap = sym (cap_is 1 t u is) i;
+      groups = sym (limits_are 1 t u is) i;
+    })
+kept_stored m (suc (suc n)) c seen g t u below is = absurd (omega (arith, below))
+
+-- the images and the places are the same
+mounted_stored : (m : UpdateMark) (slot : ℕ) (seen : Control) (g : Geometry) (t u : Table)
+    (old image : Image)
+    → slot < 2
+    → plain slot (layout_of u) ≡ plain slot (layout_of t)
+    → images_on image (kept (read_at (resloted slot m) seen g t)).a
+    ≡ images_on old (kept (read_at (resloted slot m) seen g t)).a
+    → images_on image (kept (read_at (resloted slot m) seen g t)).b
+    ≡ images_on old (kept (read_at (resloted slot m) seen g t)).b
+    → mounted_on (kept (read_at (resloted slot m) seen g u)) image
+    ≡ mounted_on (kept (read_at (resloted slot m) seen g t)) old
+unfolding state_on
+mounted_stored m zero seen g t u old image below is a b =
+    let blocks : images_on image (Some (parts_of 0 (layout_of u)))
+    ≡ images_on old (Some (parts_of 0 (layout_of t))) =
+    ap (λ ps. images_on image (Some ps)) (parts_are 0 t u is) ∙ a in
+    (λ i. record (mounted_on (kept (read_at (resloted 0 m) seen g u)) image) {
+      state = record (state_on (kept (read_at (resloted 0 m) seen g u)) image) {
+        cap = cap_is 0 t u is i;
+        groups = limits_are 0 t u is i;
+        a = blocks i;
+      };
+      places = record (mounted_on (kept (read_at (resloted 0 m) seen g u)) image).places {
+        a = Some (is i);
+      };
+    })
+mounted_stored m (suc zero) seen g t u old image below is a b =
+    let blocks : images_on image (Some (parts_of 1 (layout_of u)))
+    ≡ images_on old (Some (parts_of 1 (layout_of t))) =
+    ap (λ ps. images_on image (Some ps)) (parts_are 1 t u is) ∙ b in
+    (λ i. record (mounted_on (kept (read_at (resloted 1 m) seen g u)) image) {
+      state = record (state_on (kept (read_at (resloted 1 m) seen g u)) image) {
+        cap = cap_is 1 t u is i;
+        groups = limits_are 1 t u is i;
+        b = blocks i;
+      };
+      places = record (mounted_on (kept (read_at (resloted 1 m) seen g u)) image).places {
+        b = Some (is i);
+      };
+    })
+mounted_stored m (suc (suc n)) seen g t u old image below is a b = absurd (omega (arith, below))
+
+-- ---- what stays of the kept device
+
+-- its boot control is the same
+pub control_stays : (d : Device) (u : Table) → (with_table d u).control ≡ d.control
+control_stays d u = elim (cases_Bool (d.mark.slot == 0)) [
+  | inl a ↦ rw a refl
+  | inr b ↦ rw b refl
+]
+
+-- and its geometry
+pub geometry_stays : (d : Device) (u : Table) → (with_table d u).geometry ≡ d.geometry
+geometry_stays d u = elim (cases_Bool (d.mark.slot == 0)) [
+  | inl a ↦ rw a refl
+  | inr b ↦ rw b refl
+]
+
+pub cap_stays : (d : Device) (u : Table) → (with_table d u).cap ≡ d.cap
+cap_stays d u = elim (cases_Bool (d.mark.slot == 0)) [
+  | inl a ↦ rw a refl
+  | inr b ↦ rw b refl
+]
+
+-- ---- the disk
+
+module _
+    (d : Device) (size n : ℕ) (old image : Image) (t u : Table)
+    (st : StandsPlain d size old t)
+    (below : d.mark.slot < 2)
+    (geometry : IsGeometry d.geometry)
+    (lies : lies_in size d.geometry (layout_of t).device ≡ true)
+    (is : plain d.mark.slot (layout_of u) ≡ plain d.mark.slot (layout_of t))
+    (fits : n ≤ copy_sectors d.geometry)
+    (others : SameElsewhere d.geometry d.mark.slot n old image) where
+  abbrev k : ℕ
+  k = d.mark.slot
+
+  abbrev g : Geometry
+  g = d.geometry
+
+  abbrev r : Read
+  r = read_at d.mark d.control d.geometry t
+
+  before : (s : ℕ) → s < 4120 → image s ≡ old s
+  unfolding primary_of backup_of
+  before s lt = others s (inl (omega (arith, lt))) (inl (omega (arith, lt)))
+
+  behind : (s : ℕ) → end_of g k ≤ s → image s ≡ old s
+  behind s le =
+      let apart : primary_of g k + copy_sectors g ≤ backup_of g k =
+      copies_apart g k (omega (arith, geometry.two, below)) in
+      others s (inr (omega (arith, le, apart, fits))) (inr (omega (arith, le, fits)))
+
+  control : control_of (image 4) ≡ Ok d.control
+  control = ap control_of (before 4 (omega arith)) ∙ st.control
+
+  version : version_at image ≡ version_at old
+  version = version_same old image (before 2048 (omega arith))
+
+  -- the slot's own partitions are the same
+  rules : own_check (most_at image) k u ≡ None
+  rules =
+      ap (λ ps. names_none (bad_part (most_at image) k [] ps)) (own_is k t u is)
+      ∙ (first_kept (own_check (most_at image) k t) []
+      (parts_under r old image version st.reads.parts)).0
+
+  module _ (there : slot_table d.geometry d.mark.slot image ≡ Ok u) where
+    table : table_at size g k image ≡ Ok u
+    table =
+        table_is size g k image u there
+        (ap (lies_in size g) (device_is k t u is) ∙ lies)
+
+    reads_stored : Reads size (read_at d.mark d.control d.geometry u) image
+    reads_stored =
+        reads_idle size image (rephased marks.Idle d.mark) st.reads.enough
+        (mark_same old image (before 2048 (omega arith)) ∙ st.reads.mark)
+        refl d.control g u refl
+        (control_seen_in _ _ image d.control control)
+        (geometry_same size old image (before 4104 (omega arith)) (before 4112 (omega arith))
+        ∙ st.reads.geometry)
+        table rules (single_works r refl st.reads.state)
+
+    means_stored : device size image ≡ device size old
+    means_stored =
+        let within = ends_within g k geometry below in
+        device_of size (read_at d.mark d.control g u) image reads_stored
+        ∙ ap Ok
+        (mounted_stored d.mark k d.control g t u old image below is
+        (images_same old image (kept r).a
+        (λ s of. behind s (images_behind size (end_of g k) 0 _ _ r old s st.reads within of)))
+        (images_same old image (kept r).b
+        (λ s of. behind s (images_behind size (end_of g k) 1 _ _ r old s st.reads within of))))
+        ∙ sym (device_of size r old st.reads)
+
+  -- where both copies hold the text, the kept device is that of the disk
+  pub represents_stored : (text : List ℕ)
+      → IsTableText d.geometry.max text u
+      → BothHold d.geometry d.mark.slot text image
+      → Represents (with_table d u) size image
+  represents_stored text of_text held = record {
+    read = read_at d.mark d.control g u;
+    reads = reads_stored (both_table g k text u image held of_text);
+    is =
+        ap (λ (x : Device). with_table x u) st.is
+        ∙ kept_stored d.mark k d.control d.control g t u below is
+        ∙ ap (kept_with (read_at d.mark d.control g u)) (sym (control_stays d u));
+    control = control ∙ ap Ok (sym (control_stays d u));
+    copies = ((text, of_text, held), tt);
+    version = version ∙ st.version;
+  }
+
+-- each outcome of storing it is a disk that means the same
+pub leaves_stored : (d : Device) (size n : ℕ) (old : Image) (t u : Table) (told : List ℕ)
+    (o : Outcome)
+    → Represents d size old
+    → StandsPlain d size old t
+    → d.mark.slot < 2
+    → IsGeometry d.geometry
+    → lies_in size d.geometry (layout_of t).device ≡ true
+    → plain d.mark.slot (layout_of u) ≡ plain d.mark.slot (layout_of t)
+    → n ≤ copy_sectors d.geometry
+    → LeavesEitherTable told d.geometry d.mark.slot n old t u o
+    → LeavesMounted told size (mounted_on d old) o
+leaves_stored d size n old t u told o is st below geometry lies same fits leaves = record {
+  told_so_far = leaves.told_so_far;
+  means =
+      ⊎_elim
+      (λ was.
+      device_same size (read_at d.mark d.control d.geometry t) old o.image st.reads
+      (repair_same size n d.mark.slot (read_at d.mark d.control d.geometry t) old o.image
+      geometry below below fits st.reads leaves.others
+      (was
+      ∙ sym (both_table d.geometry d.mark.slot st.copies.0.0 t old st.copies.0.2 st.copies.0.1))))
+      (λ now.
+      means_stored d size n old o.image t u st below geometry lies same fits leaves.others now)
+      leaves.table
+      ∙ device_stands d size old is;
+}
+
+-- and so does the disk behind it
+pub mounted_behind : (d : Device) (size n : ℕ) (old new : Image) (t u : Table) (text : List ℕ)
+    → Represents d size old
+    → StandsPlain d size old t
+    → d.mark.slot < 2
+    → IsGeometry d.geometry
+    → lies_in size d.geometry (layout_of t).device ≡ true
+    → plain d.mark.slot (layout_of u) ≡ plain d.mark.slot (layout_of t)
+    → n ≤ copy_sectors d.geometry
+    → SameElsewhere d.geometry d.mark.slot n old new
+    → IsTableText d.geometry.max text u
+    → BothHold d.geometry d.mark.slot text new
+    → mounted_on (with_table d u) new ≡ mounted_on d old
+mounted_behind d size n old new t u text is st below geometry lies same fits others of_text held =
+    let now = represents_stored d size n old new t u st below geometry lies same fits others text
+    of_text held in
+    let means = means_stored d size n old new t u st below geometry lies same fits others
+    (both_table d.geometry d.mark.slot text u new held of_text) in
+    let both : Ok (mounted_on (with_table d u) new) ≡ Ok (mounted_on d old) =
+    sym (device_stands (with_table d u) size new now) ∙ means ∙ device_stands d size old is in
+    cc

@@ -1,0 +1,5 @@
+pub mod Begun
+pub mod Discarded
+pub mod Over
+pub mod Prepared
+pub mod Writes
