@@ -68,7 +68,12 @@ fn write_contents<W: fmt::Write>(f: &mut fmt::Formatter<W>, fault: &StartFault) 
             write_named(f, "partition ", name, " breaks a rule of its table")
         }
         StartFault::BadStore(name) => {
-            write_named(f, "the store of ", name, " isn't there as its status or the overlay says")
+            write_named(
+                f,
+                "the store of ",
+                name,
+                " isn't there as its status or the overlay says",
+            )
         }
         StartFault::BadState(rule) => write!(f, "{}", state_text(*rule)),
         StartFault::NoMemory => write!(f, "out of memory"),

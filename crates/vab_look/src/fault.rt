@@ -108,7 +108,10 @@ fn put_state_fault(rule: u8, out: &mut Line)
     } else if rule == 3 {
         put(b"a partition that is written has no status", out)
     } else {
-        put(b"an overlaid slot hasn't exactly one partition with a store", out)
+        put(
+            b"an overlaid slot hasn't exactly one partition with a store",
+            out,
+        )
     }
 }
 
@@ -156,7 +159,12 @@ pub(crate) fn put_fault(fault: &StartFault, out: &mut Line)
         }
         StartFault::BadPartition(name) => put_named(b"partition ", name, b" breaks a rule", out),
         StartFault::BadStore(name) => {
-            put_named(b"the store of ", name, b" isn't what its status or the overlay says", out)
+            put_named(
+                b"the store of ",
+                name,
+                b" isn't what its status or the overlay says",
+                out,
+            )
         }
         StartFault::BadState(rule) => put_state_fault(*rule, out),
         StartFault::NoMemory => put(b"out of memory", out),
