@@ -27,7 +27,7 @@ use vab_disk::{Disk, Port};
 use vab_model::Command;
 
 /// Opens the device, carries out a command, and tells its line.
-pub(crate) fn carry_out<P: Port>(
+pub(crate) fn run_command<P: Port>(
     alloc: Global,
     port: &mut P,
     command: &Command,

@@ -5,7 +5,7 @@ ghost use Rattle.vab_cli.specs.Causes.{Explains};
 ghost use Rattle.vab_cli.specs.Program.{DoesVerb};
 
 use crate::adopting::adopt;
-use crate::commands::carry_out;
+use crate::commands::run_command;
 use crate::demo::demo;
 use crate::installing::install;
 use crate::making::make;
@@ -40,14 +40,14 @@ fn do_verb<P: Port>(alloc: Global, verb: Verb, port: &mut P, cause: &mut Option<
             }
         }
         Verb::Install => install(alloc, port, cause),
-        Verb::Boot => carry_out(alloc, port, &Command::Boot, cause),
-        Verb::Mark => carry_out(alloc, port, &Command::Mark, cause),
-        Verb::BeginMerge => carry_out(alloc, port, &Command::BeginMerge, cause),
-        Verb::Merge(turns) => carry_out(alloc, port, &Command::Merge(turns), cause),
-        Verb::Cancel => carry_out(alloc, port, &Command::Cancel, cause),
-        Verb::Activate(slot) => carry_out(alloc, port, &Command::SetActive(slot), cause),
+        Verb::Boot => run_command(alloc, port, &Command::Boot, cause),
+        Verb::Mark => run_command(alloc, port, &Command::Mark, cause),
+        Verb::BeginMerge => run_command(alloc, port, &Command::BeginMerge, cause),
+        Verb::Merge(turns) => run_command(alloc, port, &Command::Merge(turns), cause),
+        Verb::Cancel => run_command(alloc, port, &Command::Cancel, cause),
+        Verb::Activate(slot) => run_command(alloc, port, &Command::SetActive(slot), cause),
         Verb::Print(name) => print(alloc, port, name.as_bytes(), cause),
-        Verb::Digest(name) => carry_out(alloc, port, &Command::Digest(name.as_bytes()), cause),
+        Verb::Digest(name) => run_command(alloc, port, &Command::Digest(name.as_bytes()), cause),
         Verb::Status => tell_page(alloc, port, cause),
         Verb::Demo { seed, scale } => demo(alloc, port, seed, scale, cause),
     }

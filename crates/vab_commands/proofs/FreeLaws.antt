@@ -15,7 +15,7 @@ use Rattle.vab_flash.specs.Touched.{blocks_for}
 use Rattle.vab_flash.proofs.SectorLaws.{flash_clear}
 use Rattle.vab_overlaying.specs.Writes.{IsOfOverlay, IsOfOverlaid, head_blocks}
 use Rattle.vab_overlaying.proofs.ClearLaws.{overlaid_clear}
-use Rattle.vab_tidy.proofs.KeptLaws.{kept_table}
+use Rattle.vab_device.proofs.SlotTable.{kept_table}
 use Rattle.vab_commands.specs.Touched.{IsFree, IsBehind}
 
 pub image_is_free : (d : Device) (size : ℕ) (image : Image) (name : List ℕ) (place : ℕ) (s : ℕ)

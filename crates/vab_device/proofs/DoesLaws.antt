@@ -46,7 +46,7 @@ pub dead_means : (d : Device) (size : ℕ) (old : Image) (V : ℕ → List ℕ �
 dead_means d size old V is dead image same =
     device_same size is.read old image is.reads (dead image same) ∙ device_stands d size old is
 
-steady_then : {A E X : Type 0} (r : Result A E) (a b c : X)
+pub steady_then : {A E X : Type 0} (r : Result A E) (a b c : X)
     → b ≡ a
     → OnOk r (c ≡ b)
     → OnOk r (c ≡ a)
@@ -57,12 +57,34 @@ pub on_ok_map : {A E : Type 0} (r : Result A E) (P Q : Type 0) → (P → Q) →
 on_ok_map (Ok x) P Q f is = f is
 on_ok_map (Err e) P Q f is = tt
 
+pub if_ok_map : {A E : Type 0} (r : Result A E) (P Q : A → Type 0)
+    → ((x : A) → P x → Q x)
+    → IfOk r P
+    → IfOk r Q
+if_ok_map (Ok x) P Q f is = f x is
+if_ok_map (Err e) P Q f is = tt
+
 -- what is done has a device behind it
 pub step_follows : {e : Effect Mounted} {wants : Bool} {reply : Reply} {next : Mounted}
     → e ≡ wanting wants (does reply next)
     → e.later ≢ []
 step_follows {e} {wants} {reply} {next} is none =
     let both : next ∷ [] ≡ [] = sym (ap (λ (x : Effect Mounted). x.later) is) ∙ none in cc
+
+-- what two calls of the same time say holds together
+pub adds_both : {D : Type 0} (moment : D → ℕ) (outcomes : D → ℕ → Outcome → Type 0) (old new : D)
+    (P Q : Outcome → Type 0)
+    → Adds moment outcomes old new P
+    → Adds moment outcomes old new Q
+    → Adds moment outcomes old new (λ o. P o × Q o)
+adds_both moment outcomes old new P Q one two = record {
+  later = one.later;
+  keeps = one.keeps;
+  adds = λ t o le left.
+      ⊎_elim (λ was. inl was)
+      (λ p. ⊎_elim (λ was. inl was) (λ q. inr (p, q)) (two.adds t o le left))
+      (one.adds t o le left);
+}
 
 module _ {D : Type 0} (g : Ghosts D) (d : Device) (staged : Option (List ℕ)) (command : Command)
     (W : ℕ → List ℕ → Type 0) where
@@ -101,6 +123,35 @@ module _ {D : Type 0} (g : Ghosts D) (d : Device) (staged : Option (List ℕ)) (
     touches = λ t. touches_reads g W old new reads;
     time = λ t rest. time_none old new _ reads t;
     faults = record { steady = counts; cause = tt };
+  }
+
+  -- the disk failed where it writes, and each outcome is a step of what is asked
+  pub fails_over : (old mid : D)
+      → IsQuiet g old mid
+      → (g.is_modelled → (effect_on (mounted_on d (g.seen old)) staged command).later ≢ [])
+      → (g.is_modelled → Touches g W old mid)
+      → (g.is_modelled
+      → IsAtRest g old
+      → Adds g.moment g.outcomes old mid
+      (LeavesStep (g.told old) (g.size old)
+      (steps_of (mounted_on d (g.seen old))
+      (effect_on (mounted_on d (g.seen old)) staged command))))
+      → (fault : DiskFault)
+      → DiskFailed (g.faults old) (g.faults mid)
+      → Does g d staged command W old mid (Err fault)
+  fails_over old mid quiet follows touches time fault failed = record {
+    refused = false;
+    kept = tt;
+    follows = tt;
+    represents = λ t. tt;
+    after = λ t. tt;
+    reply = λ t. tt;
+    rest = λ t rest. tt;
+    quiet = quiet;
+    still = λ t none. absurd (follows t none);
+    touches = touches;
+    time = time;
+    faults = record { steady = tt; cause = failed };
   }
 
   -- the disk failed where it only reads
@@ -238,20 +289,10 @@ module _ {D : Type 0} (g : Ghosts D) (d : Device) (staged : Option (List ℕ)) (
         → (g.is_modelled → (effect_on (mounted_on d (g.seen old)) staged command).later ≢ [])
         → DiskFailed (g.faults old) (g.faults mid)
         → Does g d staged command W old mid (Err fault)
-    fails_dead fault follows failed = record {
-      refused = false;
-      kept = tt;
-      follows = tt;
-      represents = λ t. tt;
-      after = λ t. tt;
-      reply = λ t. tt;
-      rest = λ t rest. tt;
-      quiet = writes.quiet;
-      still = λ t none. absurd (follows t none);
-      touches = λ t. touches_wider g W V old mid writes (within t);
-      time = until (effect_on (mounted_on d (g.seen old)) staged command);
-      faults = record { steady = tt; cause = failed };
-    }
+    fails_dead fault follows failed =
+        fails_over old mid writes.quiet follows
+        (λ t. touches_wider g W V old mid writes (within t))
+        (until (effect_on (mounted_on d (g.seen old)) staged command)) fault failed
 
     -- then it writes one sector by a gate
     module _ (new : D) (next : Device) (reply : Reply) (at : ℕ) (bytes : List ℕ) {wants : Bool}

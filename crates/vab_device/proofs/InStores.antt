@@ -28,7 +28,8 @@ IsInStores [] s = ⊥
 IsInStores (Err fault ∷ ws) s = IsInStores ws s
 IsInStores (Ok w ∷ ws) s = IsOfBlocks (blocks_there w.store) s ⊎ IsInStores ws s
 
-in_blocks : (blocks : List ℕ) (c s : ℕ)
+-- a sector of a block at an index
+pub in_blocks : (blocks : List ℕ) (c s : ℕ)
     → c < length blocks
     → IsBetween (slice_index blocks c) (slice_index blocks c + 8) s
     → IsOfBlocks blocks s

@@ -25,3 +25,9 @@ pub mod PartBlocks
 pub mod NamedParts
 pub mod OwnParts
 pub mod OverlayLaws
+pub mod AlikeLaws
+pub mod BehindLaws
+pub mod PlaceLaws
+pub mod StandsLaws
+pub mod SlotTable
+pub mod MarkGate

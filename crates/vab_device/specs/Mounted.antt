@@ -58,6 +58,12 @@ abbrev pub blocks_there : Option (List ℕ) → List ℕ
 blocks_there None = []
 blocks_there (Some store) = store
 
+-- the exceptions of the store of a partition
+abbrev pub exceptions_in : PartImage → List Exception
+exceptions_in Kept = []
+exceptions_in Declared = []
+exceptions_in (Written k es) = es
+
 -- the sectors that a read of a partition takes that is written through its store
 abbrev pub written_sectors : Part → Chunk → List Exception → List ℕ
 written_sectors p k es = sectors_seen k (blocks_there p.store) es 0 p.map

@@ -14,6 +14,8 @@ use Rattle.vab_device.specs.Kept.{lies_in, table_of_slot, is_installing, reads_b
 use Rattle.vab_device.specs.Kept.{IsKeptTable, ArePresent, AreParts, AreOfUpdate, IsUpdate}
 use Rattle.vab_device.specs.Kept.{IsDevice}
 use Rattle.vab_device.specs.Phases.{plan_of}
+use Rattle.vab_device.proofs.PhaseCases.{cases_slot}
+use Rattle.vab_device.proofs.SlotTable.{kept_table_at}
 use Rattle.vab_edit.specs.Carried.{carried}
 use Rattle.vab_edit.specs.Guards.{kept_off}
 use Rattle.vab_edit.specs.Prepared.{IsEdited, with_target}
@@ -23,23 +25,7 @@ use Rattle.vab_edit.proofs.KeptLaws.{fresh_planned, all_carried}
 use Rattle.vab_edit.proofs.NoStoresLaws.{edited_no_stores}
 use Rattle.vab_edit.proofs.StandsLaws.{planned_phase}
 
--- a slot is a or b
-pub slot_cases : (k : ℕ) → k < 2 → (k ≡ 0) ⊎ (k ≡ 1)
-slot_cases zero below = inl refl
-slot_cases (suc zero) below = inr refl
-slot_cases (suc (suc n)) below = absurd (omega (arith, below))
-
--- what holds of a table that is kept
-pub kept_table : (d : Device) (size slot : ℕ) (t : Table)
-    → IsDevice d size
-    → slot < 2
-    → table_of_slot d slot ≡ Some t
-    → IsTableOf size d.geometry slot t
-kept_table d size zero t kept below is = subst (IsKeptTable size d.geometry 0) is kept.table_a
-kept_table d size (suc zero) t kept below is = subst (IsKeptTable size d.geometry 1) is kept.table_b
-kept_table d size (suc (suc n)) t kept below is = absurd (omega (arith, below))
-
--- and of the two of an update
+-- what holds of the two tables of an update
 pub kept_update : (d : Device) (size : ℕ) (s t : Table)
     → IsDevice d size
     → HasTables d s t
@@ -63,7 +49,7 @@ module _
   pub new_lies : lies_in size d.geometry (layout_of u).device ≡ true
   new_lies =
       ap (lies_in size d.geometry) (device_of_layout t u edited.device)
-      ∙ (kept_table d size (other_slot d.mark.slot) t kept (omega arith) has.target).lies
+      ∙ (kept_table_at d size (other_slot d.mark.slot) t kept (omega arith) has.target).lies
 
   new_table : IsTableOf size d.geometry (other_slot d.mark.slot) u
   new_table = record {
@@ -193,7 +179,7 @@ module _
       → IsDevice (with_target d (other_slot d.mark.slot) u plan) size
   next_kept plan is =
       let planned : AreParts size plan = subst (AreParts size) (sym is) new_plan in
-      elim (slot_cases d.mark.slot kept.slot) [
+      elim (cases_slot d.mark.slot kept.slot) [
         | inl e ↦
             subst (λ (x : Device). IsDevice x size)
             (sym (ap (λ (n : ℕ). with_target d (other_slot n) u plan) e))

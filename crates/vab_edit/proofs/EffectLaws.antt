@@ -41,7 +41,7 @@ use Rattle.vab_edit.specs.Carried.{planned_named}
 use Rattle.vab_edit.specs.Guards.{is_written, is_settled, unless_settled, kept_from, kept_off}
 use Rattle.vab_edit.specs.Writes.{command_by, edit_by, guard_by, plan_at, layout_by}
 use Rattle.vab_edit.specs.Tables.{HasTables}
-use Rattle.vab_edit.proofs.DeviceLaws.{slot_cases}
+use Rattle.vab_device.proofs.PhaseCases.{cases_slot}
 use Rattle.vab_edit.proofs.PlainLaws.{changed_plain}
 use Rattle.vab_edit.proofs.StandsLaws.{planned_phase}
 
@@ -175,7 +175,7 @@ module _
       (planned_phase d size has.old_plan kept has.is_planned)
 
   placed_source : layout_at (places_on d) d.mark.slot ≡ Some (plain d.mark.slot (layout_of s))
-  placed_source = elim (slot_cases d.mark.slot kept.slot) [
+  placed_source = elim (cases_slot d.mark.slot kept.slot) [
     | inl e ↦
         let here : d.table_a ≡ Some s = ap (table_of_slot d) (sym e) ∙ has.source in
         let images : is_some d.a ≡ true = kept.has_a ∙ has_own 0 ∙ ap (λ (n : ℕ). n == 0) e in
@@ -191,7 +191,7 @@ module _
   ]
 
   placed_target : layout_at (places_on d) (other_slot d.mark.slot) ≡ Some (layout_of t)
-  placed_target = elim (slot_cases d.mark.slot kept.slot) [
+  placed_target = elim (cases_slot d.mark.slot kept.slot) [
     | inl e ↦
         let here : d.table_b ≡ Some t =
         ap (λ (n : ℕ). table_of_slot d (other_slot n)) (sym e) ∙ has.target in

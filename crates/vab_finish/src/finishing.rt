@@ -22,7 +22,7 @@ use vab_marks::{MarkPhase, UpdateMark};
 use vab_model::Reply;
 
 // Writes the boot control and syncs.
-fn prepare<D: Disk>(d: &mut D, control: &Control) -> Result<(), DiskFault>
+fn settle_control<D: Disk>(d: &mut D, control: &Control) -> Result<(), DiskFault>
     requires on_disk { 4 < D.size d.old }
     requires fits { Fits control.now }
     ensures sector { D.is_modelled
@@ -47,7 +47,7 @@ fn end_installation<D: Disk>(d: &mut D, device: Device) -> Result<(Device, Reply
 {
     let slot = device.mark.slot;
     let control = cleared(&device.control, 1 - slot);
-    match prepare(d, &control) {
+    match settle_control(d, &control) {
         Err(fault) => Err(fault),
         Ok(()) => {
             let mark = UpdateMark {

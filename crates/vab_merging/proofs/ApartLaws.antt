@@ -38,15 +38,6 @@ sectors_once at blocks once i j order below =
       | inr ge ↦ inr (omega (arith, a, b, ge, differ))
     ]
 
--- a sector of a block at an index
-pub in_blocks : (blocks : List ℕ) (c s : ℕ)
-    → c < length blocks
-    → IsBetween (slice_index blocks c) (slice_index blocks c + 8) s
-    → IsOfBlocks blocks s
-in_blocks [] c s below is = absurd (omega (arith, below))
-in_blocks (b ∷ bs) zero s below is = inl is
-in_blocks (b ∷ bs) (suc c) s below is = inr (in_blocks bs c s (omega (arith, below)) is)
-
 -- ---- partitions by their name
 
 -- ---- a partition of the slot, and its store

@@ -48,7 +48,8 @@ use Rattle.vab_device.proofs.BlockLaws.{bytes_same}
 use Rattle.vab_device.proofs.SameLaws.{mark_same, control_same, geometry_same, tables_agree}
 use Rattle.vab_device.proofs.StayLaws.{copy_stays}
 use Rattle.vab_device.proofs.StoreLaws.{statuses_kept}
-use Rattle.vab_merging.specs.Part.{exceptions_in, chunk_in, store_in}
+use Rattle.vab_merging.specs.Part.{chunk_in, store_in}
+use Rattle.vab_device.specs.Mounted.{exceptions_in}
 use Rattle.vab_merging.specs.Turns.{own_of, with_own, part_at, cut_image, cut_part, cut_at}
 use Rattle.vab_merging.specs.Turns.{left_in}
 use Rattle.vab_merging.proofs.OwnLaws.{Single, mounted_with}

@@ -33,7 +33,8 @@ use Rattle.vab_device.specs.Mounted.{mounted_on, count_of, blocks_there}
 use Rattle.vab_device.specs.Reading.{device, Represents}
 use Rattle.vab_device.specs.Updates.{merged_to}
 use Rattle.vab_device.proofs.ReadingLaws.{device_stands}
-use Rattle.vab_merging.specs.Part.{exceptions_in, chunk_in, store_in, RunsPart}
+use Rattle.vab_merging.specs.Part.{chunk_in, store_in, RunsPart}
+use Rattle.vab_device.specs.Mounted.{exceptions_in}
 use Rattle.vab_merging.specs.Run.{LeavesTurns, MakesTurns}
 use Rattle.vab_merging.specs.Turns.{next_of, own_of, no_part, part_at, cut_part, cut_at}
 use Rattle.vab_merging.specs.Turns.{left_in}
@@ -46,23 +47,9 @@ use Rattle.vab_merging.proofs.SeenLaws.{merged_in}
 use Rattle.vab_merging.proofs.CutLaws.{exceptions_count, Touched, touched_of, base_apart}
 use Rattle.vab_merging.proofs.CutLaws.{store_apart, disjoint, scan_kept_is, represents_then}
 use Rattle.vab_merging.proofs.CutLaws.{mounted_then}
+use Rattle.vab_device.proofs.DoesLaws.{adds_both}
 
 -- ---- outcomes
-
--- what two calls of the same time say holds together
-pub adds_both : {D : Type 0} (moment : D → ℕ) (outcomes : D → ℕ → Outcome → Type 0) (old new : D)
-    (P Q : Outcome → Type 0)
-    → Adds moment outcomes old new P
-    → Adds moment outcomes old new Q
-    → Adds moment outcomes old new (λ o. P o × Q o)
-adds_both moment outcomes old new P Q one two = record {
-  later = one.later;
-  keeps = one.keeps;
-  adds = λ t o le left.
-      ⊎_elim (λ was. inl was)
-      (λ p. ⊎_elim (λ was. inl was) (λ q. inr (p, q)) (two.adds t o le left))
-      (one.adds t o le left);
-}
 
 -- ---- a partition that is kept
 

@@ -19,7 +19,7 @@ use Rattle.vab_merge.proofs.TurnLaws.{IsMergedSector}
 use Rattle.vab_device.specs.Mounted.{bytes_at}
 use Rattle.vab_device.specs.Reading.{IsOfBlocks}
 use Rattle.vab_device.specs.Stores.{sector_seen, sectors_seen}
-use Rattle.vab_merging.proofs.ApartLaws.{in_blocks}
+use Rattle.vab_device.proofs.InStores.{in_blocks}
 
 -- ---- blocks through a store
 

@@ -14,13 +14,7 @@ use Rattle.vab_merge.specs.Merged.{WithoutLast, LeavesMerged, IsMerging}
 use Rattle.vab_device.specs.declared.device.Part.{Part}
 use Rattle.vab_device.specs.declared.device.PartImage.{PartImage}
 use Rattle.vab_device.specs.declared.device.PartImage.TheVariants.{Kept, Declared, Written}
-use Rattle.vab_device.specs.Mounted.{blocks_there}
-
--- the exceptions of the store of a partition
-abbrev pub exceptions_in : PartImage → List Exception
-exceptions_in Kept = []
-exceptions_in Declared = []
-exceptions_in (Written k es) = es
+use Rattle.vab_device.specs.Mounted.{blocks_there, exceptions_in}
 
 -- the size of a chunk of that store; where none is read there is nothing to merge
 abbrev pub chunk_in : PartImage → Chunk

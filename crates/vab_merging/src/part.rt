@@ -4,7 +4,8 @@ ghost use Rattle.std.specs.Prelude.{◌≡◌, ◌<◌, length, IfOk, IsSome, Is
 ghost use Rattle.vab_merge.specs.Merged.{CanMerge, MayMerge};
 ghost use Rattle.vab_device.specs.Mounted.{blocks_there};
 ghost use Rattle.vab_merging.specs.Turns.{has_exceptions, cut_part};
-ghost use Rattle.vab_merging.specs.Part.{chunk_in, exceptions_in, RunsPart};
+ghost use Rattle.vab_merging.specs.Part.{chunk_in, RunsPart};
+ghost use Rattle.vab_device.specs.Mounted.{exceptions_in};
 
 use vab_device::{Part, PartImage};
 use vab_disk::Disk;

@@ -31,17 +31,17 @@ use Rattle.vab_device.specs.Mounted.{mounted_on, image_on}
 use Rattle.vab_device.specs.Reading.{Represents, IsOfBlocks}
 use Rattle.vab_device.specs.Updates.{over_effect}
 use Rattle.vab_device.proofs.OwnParts.{length-sectors_of}
+use Rattle.vab_device.proofs.SlotTable.{kept_table}
 use Rattle.vab_overlaying.specs.declared.prepared.Prepared.{Prepared}
 use Rattle.vab_overlaying.specs.Begun.{with_table, IsOver, IsOfHead, Begins}
 use Rattle.vab_overlaying.specs.Prepared.{AreWhole, IsMeasured, HasStore}
 use Rattle.vab_overlaying.specs.Prepared.{IsPrepared}
 use Rattle.vab_overlaying.specs.Writes.{IsOfOverlay, overlay_text}
 use Rattle.vab_overlaying.proofs.CountLaws.{parts_are}
-use Rattle.vab_overlaying.proofs.HeadLaws.{kept_table}
 use Rattle.vab_overlaying.proofs.KeptLaws.{mark_now, table_now, parts_now}
 use Rattle.vab_overlaying.proofs.MeasuredLaws.{measured_row}
-use Rattle.vab_overlaying.proofs.PlainLaws as same
-use Rattle.vab_overlaying.proofs.PlainLaws.{device_is}
+use Rattle.vab_device.proofs.AlikeLaws as same
+use Rattle.vab_device.proofs.AlikeLaws.{device_is}
 use Rattle.vab_overlaying.proofs.RowLaws.{plain_over}
 use Rattle.vab_overlaying.proofs.StoredLaws.{stored_part, stored_over}
 use Rattle.vab_overlaying.proofs.TableLaws.{geometry_stays, cap_stays}

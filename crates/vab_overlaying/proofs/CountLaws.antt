@@ -25,7 +25,7 @@ use Rattle.vab_device.specs.Kept.{parts_of, part_on, table_of_slot}
 use Rattle.vab_device.specs.Reading.{Represents}
 use Rattle.vab_device.proofs.UpdateLaws.{kept_with}
 use Rattle.vab_overlaying.specs.Prepared.{AreWhole}
-use Rattle.vab_overlaying.proofs.PlainLaws.{read_at, stands_plain}
+use Rattle.vab_device.proofs.StandsLaws.{read_at, stands_idle}
 use Rattle.vab_overlaying.proofs.RowLaws.{IsCounted, counted}
 
 -- ---- the partitions that are kept
@@ -64,7 +64,7 @@ pub parts_are : (d : Device) (n : ℕ) (image : Image) (t : Table)
     → table_of_slot d d.mark.slot ≡ Some t
     → parts_at d d.mark.slot ≡ Some (parts_of d.mark.slot (layout_of t))
 parts_are d n image t dev is idle plain table =
-    let st = stands_plain d n image t dev.slot idle plain table is in
+    let st = stands_idle d n image t dev.slot idle plain table is in
     ap (λ (k : Device). parts_at k d.mark.slot) st.is
     ∙ kept_parts d.mark d.mark.slot d.control d.control d.geometry t dev.slot
 

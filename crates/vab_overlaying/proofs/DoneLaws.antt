@@ -33,28 +33,16 @@ use Rattle.vab_device.specs.Mounted.{sectors_read}
 use Rattle.vab_device.specs.Reading.{Represents, IsOfBlocks}
 use Rattle.vab_device.specs.Updates.{effect_on}
 use Rattle.vab_device.proofs.DoesLaws.{follows_kept, step_follows, does_nothing}
-use Rattle.vab_overlaying.specs.Over.{exceptions_in, with_list, with_over, PutsOver}
+use Rattle.vab_overlaying.specs.Over.{with_list, with_over, PutsOver}
+use Rattle.vab_device.specs.Mounted.{exceptions_in}
 use Rattle.vab_overlaying.specs.Writes.{IsOfOverlaid}
-use Rattle.vab_overlaying.proofs.NextLaws.{base, store, in_blocks}
+use Rattle.vab_overlaying.proofs.NextLaws.{base, store}
+use Rattle.vab_device.proofs.InStores.{in_blocks}
 use Rattle.vab_overlaying.proofs.WriteRowLaws.{overlaid_on, shape, over_long, store_full, is_done}
 use Rattle.vab_overlaying.proofs.ShapeLaws.{IsOver, over_of}
 use Rattle.vab_overlaying.proofs.WriteLaws.{after, effect, below, kept_means, written_represents}
 use Rattle.vab_overlaying.proofs.WriteLaws.{written_mounted, written_means}
-
--- what two calls of the same time say holds together
-adds_both : {D : Type 0} (moment : D → ℕ) (outcomes : D → ℕ → Outcome → Type 0) (old new : D)
-    (P Q : Outcome → Type 0)
-    → Adds moment outcomes old new P
-    → Adds moment outcomes old new Q
-    → Adds moment outcomes old new (λ o. P o × Q o)
-adds_both moment outcomes old new P Q one two = record {
-  later = one.later;
-  keeps = one.keeps;
-  adds = λ t o le left.
-      ⊎_elim (λ was. inl was)
-      (λ p. ⊎_elim (λ was. inl was) (λ q. inr (p, q)) (two.adds t o le left))
-      (one.adds t o le left);
-}
+use Rattle.vab_device.proofs.DoesLaws.{adds_both}
 
 -- the device with a list that fits is one
 over_kept : (d : Device) (size : ℕ) (p : Part) (block : ℕ) (now : List Exception)

@@ -24,8 +24,9 @@ use Rattle.vab_device.specs.Reading.{IsOfImages, IsOfTables, Dead, parts_for, ta
 use Rattle.vab_device.proofs.PartBlocks.{sectors_apart, block_behind}
 use Rattle.vab_device.proofs.RepairLaws.{end_of, ends_within}
 use Rattle.vab_device.proofs.SameLaws.{dead_of}
+use Rattle.vab_device.proofs.SlotTable.{kept_table}
 use Rattle.vab_overlaying.proofs.OverlaidLaws.{apart_one}
-use Rattle.vab_overlaying.proofs.PlainLaws.{read_at, StandsPlain}
+use Rattle.vab_device.proofs.StandsLaws.{read_at, StandsIdle}
 
 -- ---- the first blocks of a list
 
@@ -56,25 +57,6 @@ of_front (suc n) [] s is = absurd is
 of_front (suc n) (b ∷ bs) s (inl here) = inl here
 of_front (suc n) (b ∷ bs) s (inr there) = inr (of_front n bs s there)
 
--- ---- the kept table of a slot
-
-kept_at : (size : ℕ) (g : Geometry) (n : ℕ) (a b : Option Table) (t : Table)
-    → n < 2
-    → IsKeptTable size g 0 a
-    → IsKeptTable size g 1 b
-    → (if n == 0 then a else b) ≡ Some t
-    → IsTableOf size g n t
-kept_at size g zero a b t below of_a of_b is = subst (IsKeptTable size g 0) is of_a
-kept_at size g (suc zero) a b t below of_a of_b is = subst (IsKeptTable size g 1) is of_b
-kept_at size g (suc (suc n)) a b t below of_a of_b is = absurd (omega (arith, below))
-
-pub kept_table : (d : Device) (size : ℕ) (t : Table)
-    → IsDevice d size
-    → table_of_slot d d.mark.slot ≡ Some t
-    → IsTableOf size d.geometry d.mark.slot t
-kept_table d size t dev is =
-    kept_at size d.geometry d.mark.slot d.table_a d.table_b t dev.slot dev.table_a dev.table_b is
-
 -- ---- sectors of a store over one of the slot's partitions
 
 -- a sector of the images of a slot alone is one of its partitions
@@ -92,7 +74,7 @@ module _
     (d : Device) (size : ℕ) (old : Image) (t : Table)
     (dev : IsDevice d size)
     (own : table_of_slot d d.mark.slot ≡ Some t)
-    (st : StandsPlain d size old t)
+    (st : StandsIdle d size old t)
     (o : Overlaid)
     (by : IsOverlaidBy d.mark.slot (layout_of t).parts o.part o.store) where
   abbrev at : ℕ

@@ -16,15 +16,8 @@ use Rattle.vab_device.proofs.OverlayLaws.{plain_none}
 use Rattle.vab_device.proofs.OwnParts.{parts_kept}
 use Rattle.vab_device.proofs.PhaseCases.{cases_slot}
 use Rattle.vab_overlaying.specs.Begun.{with_table, over_part, over_device, IsOver}
-use Rattle.vab_overlaying.proofs.HeadLaws.{kept_table}
+use Rattle.vab_device.proofs.SlotTable.{kept_table, no_update, retabled_a, retabled_b}
 use Rattle.vab_overlaying.proofs.OverlaidLaws.{is_overlaid_on}
-
-no_update : (apart : Bool) (source : ℕ) (s t : Option Table)
-    → is_some t ≡ false
-    → IsUpdate apart source s t
-no_update apart source None t none = tt
-no_update apart source (Some s) None none = tt
-no_update apart source (Some s) (Some t) none = absurd (let no : true ≡ false = none in cc)
 
 -- ---- with the table that has the store
 
@@ -34,104 +27,12 @@ module _
     (idle : d.mark.phase ≡ marks.Idle)
     (plain : d.mark.overlaid ≡ false)
     (new_table : IsTableOf size d.geometry d.mark.slot u) where
-  new_parts : AreParts size (parts_of d.mark.slot (layout_of u))
-  new_parts =
-      parts_kept size d.mark.slot d.geometry (layout_of u) kept.enough
-      (layout_keeps u new_table.rules) new_table.own new_table.lies
-
-  -- the other slot has no table
-  no_other : is_some (table_of_slot d (other_slot d.mark.slot)) ≡ false
-  no_other = kept.target ∙ ap reads_both idle
-
-  slot_has : (slot : ℕ) → has_slot d.mark.phase d.mark.slot slot ≡ (d.mark.slot == slot)
-  slot_has slot = ap (λ (p : MarkPhase). has_slot p d.mark.slot slot) idle
-
-  bare : (parts : Option (List Part)) → IsOverlay size parts d.overlay
-  bare parts =
-      subst (λ (o : Option Part). IsOverlay size parts o) (sym (plain_none d size kept plain)) tt
-
-  of_a : d.mark.slot ≡ 0
-      → IsDevice
-      (record d { a = Some (parts_of d.mark.slot (layout_of u)); table_a = Some u })
-      size
-  of_a e =
-      let none : is_some d.table_b ≡ false =
-      ap (λ (n : ℕ). is_some (table_of_slot d (other_slot n))) (sym e) ∙ no_other in
-      record {
-        enough = kept.enough;
-        geometry = kept.geometry;
-        control = kept.control;
-        phase = kept.phase;
-        slot = kept.slot;
-        flags = kept.flags;
-        current = kept.current;
-        has_a = sym (slot_has 0 ∙ ap (λ (n : ℕ). n == 0) e);
-        has_b = kept.has_b;
-        copies_on = kept.copies_on;
-        parts_a = new_parts;
-        parts_b = kept.parts_b;
-        table_a = subst (λ (n : ℕ). IsTableOf size d.geometry n u) e new_table;
-        table_b = kept.table_b;
-        source = ap (λ (n : ℕ). is_some (if n == 0 then Some u else d.table_b)) e;
-        target =
-            ap (λ (n : ℕ). is_some (if other_slot n == 0 then Some u else d.table_b)) e
-            ∙ none
-            ∙ sym (ap reads_both idle);
-        planned = kept.planned;
-        plan = kept.plan;
-        update =
-            no_update d.mark.apart d.mark.slot
-            (if d.mark.slot == 0 then Some u else d.table_b)
-            (if other_slot d.mark.slot == 0 then Some u else d.table_b)
-            (ap (λ (n : ℕ). is_some (if other_slot n == 0 then Some u else d.table_b)) e
-            ∙ none);
-        overlaid = kept.overlaid;
-        overlay = bare _;
-      }
-
-  of_b : d.mark.slot ≡ 1
-      → IsDevice
-      (record d { b = Some (parts_of d.mark.slot (layout_of u)); table_b = Some u })
-      size
-  of_b e =
-      let none : is_some d.table_a ≡ false =
-      ap (λ (n : ℕ). is_some (table_of_slot d (other_slot n))) (sym e) ∙ no_other in
-      record {
-        enough = kept.enough;
-        geometry = kept.geometry;
-        control = kept.control;
-        phase = kept.phase;
-        slot = kept.slot;
-        flags = kept.flags;
-        current = kept.current;
-        has_a = kept.has_a;
-        has_b = sym (slot_has 1 ∙ ap (λ (n : ℕ). n == 1) e);
-        copies_on = kept.copies_on;
-        parts_a = kept.parts_a;
-        parts_b = new_parts;
-        table_a = kept.table_a;
-        table_b = subst (λ (n : ℕ). IsTableOf size d.geometry n u) e new_table;
-        source = ap (λ (n : ℕ). is_some (if n == 0 then d.table_a else Some u)) e;
-        target =
-            ap (λ (n : ℕ). is_some (if other_slot n == 0 then d.table_a else Some u)) e
-            ∙ none
-            ∙ sym (ap reads_both idle);
-        planned = kept.planned;
-        plan = kept.plan;
-        update =
-            no_update d.mark.apart d.mark.slot
-            (if d.mark.slot == 0 then d.table_a else Some u)
-            (if other_slot d.mark.slot == 0 then d.table_a else Some u)
-            (ap (λ (n : ℕ). is_some (if other_slot n == 0 then d.table_a else Some u)) e
-            ∙ none);
-        overlaid = kept.overlaid;
-        overlay = bare _;
-      }
-
   pub table_kept : IsDevice (with_table d u) size
   table_kept = elim (cases_slot d.mark.slot kept.slot) [
-    | inl e ↦ rw (ap (λ (n : ℕ). n == 0) e) (of_a e)
-    | inr e ↦ rw (ap (λ (n : ℕ). n == 0) e) (of_b e)
+    | inl e ↦
+        rw (ap (λ (n : ℕ). n == 0) e) (retabled_a d size u d.groups kept idle plain new_table e)
+    | inr e ↦
+        rw (ap (λ (n : ℕ). n == 0) e) (retabled_b d size u d.groups kept idle plain new_table e)
   ]
 
 -- what the device with the table has

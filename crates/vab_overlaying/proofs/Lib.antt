@@ -1,6 +1,5 @@
 pub mod ApartLaws
 pub mod BeginLaws
-pub mod BehindLaws
 pub mod BlankLaws
 pub mod ClearLaws
 pub mod CountLaws
@@ -14,7 +13,6 @@ pub mod NextLaws
 pub mod OverLaws
 pub mod OverlaidLaws
 pub mod OverlayLaws
-pub mod PlainLaws
 pub mod PutLaws
 pub mod RowLaws
 pub mod SeenLaws

@@ -38,7 +38,7 @@ use Rattle.vab_overlaying.specs.Prepared.{AreWhole, Refuses, IsMeasured}
 use Rattle.vab_overlaying.proofs.CountLaws.{parts_are, each_counted, named_there}
 use Rattle.vab_overlaying.proofs.JudgedLaws.{slot_table}
 use Rattle.vab_overlaying.proofs.OverlaidLaws.{base_one}
-use Rattle.vab_overlaying.proofs.PlainLaws.{stands_plain}
+use Rattle.vab_device.proofs.StandsLaws.{stands_idle}
 use Rattle.vab_overlaying.proofs.RowLaws.{IsCounted, found_row, plain_over}
 
 -- ---- the row
@@ -198,7 +198,7 @@ measured_room d n image name size blocks t dev is m table =
     let same : m.parts ≡ parts_of d.mark.slot (layout_of t) = cc in
     let cap : d.cap ≡ cap_of (layout_of t).device =
     ap (λ (k : Device). k.cap)
-    (stands_plain d n image t dev.slot m.asked.idle m.asked.plain table is).is in
+    (stands_idle d n image t dev.slot m.asked.idle m.asked.plain table is).is in
     let count : sum_by (λ q. length q.map) m.parts
     ≡ length (blocks_of_parts (own_parts d.mark.slot (layout_of t).parts)) =
     ap (sum_by (λ (q : Part). length q.map)) same

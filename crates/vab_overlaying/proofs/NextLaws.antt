@@ -121,15 +121,6 @@ for_miss k slot xs t blocks s apart is here = elim (cases_Bool (slot == k)) [
   | inr other ↦ absurd (let none : ⊥ = (rw other at is) in none)
 ]
 
--- a sector of a block at an index
-pub in_blocks : (blocks : List ℕ) (c s : ℕ)
-    → c < length blocks
-    → IsBetween (slice_index blocks c) (slice_index blocks c + 8) s
-    → IsOfBlocks blocks s
-in_blocks [] c s below is = absurd (omega (arith, below))
-in_blocks (b ∷ bs) zero s below is = inl is
-in_blocks (b ∷ bs) (suc c) s below is = inr (in_blocks bs c s (omega (arith, below)) is)
-
 -- ---- a device with an overlaid partition
 
 module _ (d : Device) (size : ℕ) (old : Image) (dev : IsDevice d size)

@@ -15,10 +15,11 @@ use Rattle.vab_device.specs.Mounted.{mounted_on}
 use Rattle.vab_device.specs.Reading.{device, Represents}
 use Rattle.vab_device.proofs.PartBlocks.{sector_at, sectors_long}
 use Rattle.vab_device.proofs.ReadingLaws.{device_same, device_stands}
+use Rattle.vab_device.proofs.SlotTable.{kept_table}
 use Rattle.vab_overlaying.specs.Begun.{IsOver, IsOfHead}
-use Rattle.vab_overlaying.proofs.HeadLaws.{in_first, head_dead, kept_table}
+use Rattle.vab_overlaying.proofs.HeadLaws.{in_first, head_dead}
 use Rattle.vab_overlaying.proofs.OverlaidLaws.{store_distinct, store_on_disk}
-use Rattle.vab_overlaying.proofs.PlainLaws.{read_at, stands_plain}
+use Rattle.vab_device.proofs.StandsLaws.{read_at, stands_idle}
 
 blocks_apart : (at : ℕ) (blocks : List ℕ) → IsDistinct blocks → IsApart (sectors_of at blocks)
 blocks_apart at blocks once i j before below =
@@ -64,7 +65,7 @@ module _
       → SameBut (InSectors (InFirst store 2)) old image
       → device size image ≡ Ok (mounted_on d old)
   over_dead old image is but =
-      let st = stands_plain d size old over.table dev.slot over.idle over.plain over.is is in
+      let st = stands_idle d size old over.table dev.slot over.idle over.plain over.is is in
       device_same size (read_at d.mark d.control d.geometry over.table) old image st.reads
       (head_dead d size old over.table dev over.is st over.over over.by 2
       (omega (arith, over.two, sectors_long at over.over.store.blocks)) image

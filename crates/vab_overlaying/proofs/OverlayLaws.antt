@@ -33,9 +33,9 @@ use Rattle.vab_overlaying.specs.Writes.{IsOfOverlay}
 use Rattle.vab_overlaying.proofs.BeginLaws.{prepared_lies, prepared_table, prepared_short}
 use Rattle.vab_overlaying.proofs.BeginLaws.{prepared_stands, prepared_begins, next_begins}
 use Rattle.vab_overlaying.proofs.BeginLaws.{table_in, head_in}
-use Rattle.vab_overlaying.proofs.BehindLaws.{LeavesMounted, fails_behind, does_behind}
+use Rattle.vab_device.proofs.BehindLaws.{LeavesMounted, fails_behind, does_behind}
 use Rattle.vab_overlaying.proofs.KeptLaws.{table_kept}
-use Rattle.vab_overlaying.proofs.PlainLaws.{StandsPlain, stands_plain}
+use Rattle.vab_device.proofs.StandsLaws.{StandsIdle, stands_idle}
 use Rattle.vab_overlaying.proofs.TableLaws.{geometry_stays, leaves_stored, mounted_behind}
 use Rattle.vab_overlaying.proofs.TableLaws.{represents_stored}
 
@@ -87,9 +87,9 @@ module _ {D : Type 0} (g : Ghosts D) (d : Device) (staged : Option (List ℕ)) (
         text_fits d.geometry (length x.text) kept.geometry
         (prepared_short d (g.size old) name size x kept is)
 
-    st : g.is_modelled → StandsPlain d (g.size old) (g.seen old) is.table
+    st : g.is_modelled → StandsIdle d (g.size old) (g.seen old) is.table
     st t =
-        stands_plain d (g.size old) (g.seen old) is.table kept.slot is.measured.asked.idle
+        stands_idle d (g.size old) (g.seen old) is.table kept.slot is.measured.asked.idle
         is.measured.asked.plain is.is (represents t)
 
     means : g.is_modelled

@@ -59,12 +59,13 @@ use Rattle.vab_device.proofs.SameLaws.{geometry_same, tables_agree, images_same}
 use Rattle.vab_device.proofs.StayLaws.{mark_there, version_there, copy_stays, copies_from}
 use Rattle.vab_device.proofs.Steps.{marked, IsStep}
 use Rattle.vab_device.proofs.UpdateLaws.{kept_with}
+use Rattle.vab_device.proofs.SlotTable.{kept_table}
 use Rattle.vab_overlaying.specs.Begun.{over_part, over_device, IsOver}
 use Rattle.vab_overlaying.proofs.HeadLaws.{OfStore, in_first, of_front, not_low, not_tables}
 use Rattle.vab_overlaying.proofs.HeadLaws.{not_own}
-use Rattle.vab_overlaying.proofs.HeadLaws.{of_images, kept_table}
+use Rattle.vab_overlaying.proofs.HeadLaws.{of_images}
 use Rattle.vab_overlaying.proofs.OverlaidLaws.{apart_one}
-use Rattle.vab_overlaying.proofs.PlainLaws.{read_at, StandsPlain, stands_plain}
+use Rattle.vab_device.proofs.StandsLaws.{read_at, StandsIdle, stands_idle}
 
 -- ---- what is read then
 
@@ -200,8 +201,8 @@ module _
   abbrev blocks : List ℕ
   blocks = sectors_of (layout_of over.table).device.first_logical_sector over.over.store.blocks
 
-  st : StandsPlain d size old over.table
-  st = stands_plain d size old over.table dev.slot over.idle over.plain over.is is
+  st : StandsIdle d size old over.table
+  st = stands_idle d size old over.table dev.slot over.idle over.plain over.is is
 
   of : IsTableOf size d.geometry d.mark.slot over.table
   of = kept_table d size over.table dev over.is

@@ -37,30 +37,11 @@ use Rattle.vab_device.proofs.RepairLaws.{end_of, ends_within, repair_same}
 use Rattle.vab_device.proofs.MostLaws.{parts_under}
 use Rattle.vab_device.proofs.SameLaws.{mark_same, geometry_same, images_same, version_same}
 use Rattle.vab_device.proofs.UpdateLaws.{kept_with}
+use Rattle.vab_device.proofs.StandsLaws.{StandsIdle, read_at}
+use Rattle.vab_device.proofs.AlikeLaws.{cap_is, limits_are, reads_alike, means_alike}
+use Rattle.vab_device.proofs.AlikeLaws.{control_alike, version_alike}
 use Rattle.vab_overlaying.specs.Begun.{with_table}
-use Rattle.vab_overlaying.proofs.BehindLaws.{LeavesMounted}
-use Rattle.vab_overlaying.proofs.PlainLaws.{read_at, StandsPlain, device_is, own_is, parts_are}
-use Rattle.vab_overlaying.proofs.PlainLaws.{cap_is, limits_are}
-
-table_is : (size : ℕ) (g : Geometry) (slot : ℕ) (image : Image) (t : Table)
-    → slot_table g slot image ≡ Ok t
-    → lies_in size g (layout_of t).device ≡ true
-    → table_at size g slot image ≡ Ok t
-unfolding table_at
-table_is size g slot image t said lies = ap (table_read size g slot) said ∙ rw lies refl
-
--- both copies of a slot's table are on the disk where all copies are
-pub copies_on_disk : (g : Geometry) (slot size : ℕ)
-    → IsGeometry g
-    → slot < 2
-    → copies_end g ≤ super_bytes size
-    → backup_of g slot + copy_sectors g ≤ size
-copies_on_disk g slot size rules below on =
-    let whole : 512 * (g.max / 512) ≡ g.max = omega (arith, rules.sectors) in
-    let byte = backup_byte g slot rules in
-    let most : (g.slots + slot + 1) * g.max ≤ (2 * g.slots) * g.max =
-    mul-le-mul_right g.max (omega (arith, rules.two, below)) in
-    omega (arith, whole, byte, most, on, rules.least)
+use Rattle.vab_device.proofs.BehindLaws.{LeavesMounted}
 
 -- the kept device of the new table
 kept_stored : (m : UpdateMark) (slot : ℕ) (c seen : Control) (g : Geometry) (t u : Table)
@@ -79,48 +60,6 @@ kept_stored m (suc zero) c seen g t u below is =
       groups = sym (limits_are 1 t u is) i;
     })
 kept_stored m (suc (suc n)) c seen g t u below is = absurd (omega (arith, below))
-
--- the images and the places are the same
-mounted_stored : (m : UpdateMark) (slot : ℕ) (seen : Control) (g : Geometry) (t u : Table)
-    (old image : Image)
-    → slot < 2
-    → plain slot (layout_of u) ≡ plain slot (layout_of t)
-    → images_on image (kept (read_at (resloted slot m) seen g t)).a
-    ≡ images_on old (kept (read_at (resloted slot m) seen g t)).a
-    → images_on image (kept (read_at (resloted slot m) seen g t)).b
-    ≡ images_on old (kept (read_at (resloted slot m) seen g t)).b
-    → mounted_on (kept (read_at (resloted slot m) seen g u)) image
-    ≡ mounted_on (kept (read_at (resloted slot m) seen g t)) old
-unfolding state_on
-mounted_stored m zero seen g t u old image below is a b =
-    let blocks : images_on image (Some (parts_of 0 (layout_of u)))
-    ≡ images_on old (Some (parts_of 0 (layout_of t))) =
-    ap (λ ps. images_on image (Some ps)) (parts_are 0 t u is) ∙ a in
-    (λ i. record (mounted_on (kept (read_at (resloted 0 m) seen g u)) image) {
-      state = record (state_on (kept (read_at (resloted 0 m) seen g u)) image) {
-        cap = cap_is 0 t u is i;
-        groups = limits_are 0 t u is i;
-        a = blocks i;
-      };
-      places = record (mounted_on (kept (read_at (resloted 0 m) seen g u)) image).places {
-        a = Some (is i);
-      };
-    })
-mounted_stored m (suc zero) seen g t u old image below is a b =
-    let blocks : images_on image (Some (parts_of 1 (layout_of u)))
-    ≡ images_on old (Some (parts_of 1 (layout_of t))) =
-    ap (λ ps. images_on image (Some ps)) (parts_are 1 t u is) ∙ b in
-    (λ i. record (mounted_on (kept (read_at (resloted 1 m) seen g u)) image) {
-      state = record (state_on (kept (read_at (resloted 1 m) seen g u)) image) {
-        cap = cap_is 1 t u is i;
-        groups = limits_are 1 t u is i;
-        b = blocks i;
-      };
-      places = record (mounted_on (kept (read_at (resloted 1 m) seen g u)) image).places {
-        b = Some (is i);
-      };
-    })
-mounted_stored m (suc (suc n)) seen g t u old image below is a b = absurd (omega (arith, below))
 
 -- ---- what stays of the kept device
 
@@ -148,95 +87,41 @@ cap_stays d u = elim (cases_Bool (d.mark.slot == 0)) [
 
 module _
     (d : Device) (size n : ℕ) (old image : Image) (t u : Table)
-    (st : StandsPlain d size old t)
+    (st : StandsIdle d size old t)
     (below : d.mark.slot < 2)
     (geometry : IsGeometry d.geometry)
     (lies : lies_in size d.geometry (layout_of t).device ≡ true)
     (is : plain d.mark.slot (layout_of u) ≡ plain d.mark.slot (layout_of t))
     (fits : n ≤ copy_sectors d.geometry)
     (others : SameElsewhere d.geometry d.mark.slot n old image) where
-  abbrev k : ℕ
-  k = d.mark.slot
-
-  abbrev g : Geometry
-  g = d.geometry
-
-  abbrev r : Read
-  r = read_at d.mark d.control d.geometry t
-
-  before : (s : ℕ) → s < 4120 → image s ≡ old s
-  unfolding primary_of backup_of
-  before s lt = others s (inl (omega (arith, lt))) (inl (omega (arith, lt)))
-
-  behind : (s : ℕ) → end_of g k ≤ s → image s ≡ old s
-  behind s le =
-      let apart : primary_of g k + copy_sectors g ≤ backup_of g k =
-      copies_apart g k (omega (arith, geometry.two, below)) in
-      others s (inr (omega (arith, le, apart, fits))) (inr (omega (arith, le, fits)))
-
-  control : control_of (image 4) ≡ Ok d.control
-  control = ap control_of (before 4 (omega arith)) ∙ st.control
-
-  version : version_at image ≡ version_at old
-  version = version_same old image (before 2048 (omega arith))
-
-  -- the slot's own partitions are the same
-  rules : own_check (most_at image) k u ≡ None
-  rules =
-      ap (λ ps. names_none (bad_part (most_at image) k [] ps)) (own_is k t u is)
-      ∙ (first_kept (own_check (most_at image) k t) []
-      (parts_under r old image version st.reads.parts)).0
-
-  module _ (there : slot_table d.geometry d.mark.slot image ≡ Ok u) where
-    table : table_at size g k image ≡ Ok u
-    table =
-        table_is size g k image u there
-        (ap (lies_in size g) (device_is k t u is) ∙ lies)
-
-    reads_stored : Reads size (read_at d.mark d.control d.geometry u) image
-    reads_stored =
-        reads_idle size image (rephased marks.Idle d.mark) st.reads.enough
-        (mark_same old image (before 2048 (omega arith)) ∙ st.reads.mark)
-        refl d.control g u refl
-        (control_seen_in _ _ image d.control control)
-        (geometry_same size old image (before 4104 (omega arith)) (before 4112 (omega arith))
-        ∙ st.reads.geometry)
-        table rules (single_works r refl st.reads.state)
-
-    means_stored : device size image ≡ device size old
-    means_stored =
-        let within = ends_within g k geometry below in
-        device_of size (read_at d.mark d.control g u) image reads_stored
-        ∙ ap Ok
-        (mounted_stored d.mark k d.control g t u old image below is
-        (images_same old image (kept r).a
-        (λ s of. behind s (images_behind size (end_of g k) 0 _ _ r old s st.reads within of)))
-        (images_same old image (kept r).b
-        (λ s of. behind s (images_behind size (end_of g k) 1 _ _ r old s st.reads within of))))
-        ∙ sym (device_of size r old st.reads)
-
   -- where both copies hold the text, the kept device is that of the disk
   pub represents_stored : (text : List ℕ)
       → IsTableText d.geometry.max text u
       → BothHold d.geometry d.mark.slot text image
       → Represents (with_table d u) size image
   represents_stored text of_text held = record {
-    read = read_at d.mark d.control g u;
-    reads = reads_stored (both_table g k text u image held of_text);
+    read = read_at d.mark d.control d.geometry u;
+    reads =
+        reads_alike d size n old image t u st below geometry lies is fits others
+        (both_table d.geometry d.mark.slot text u image held of_text);
     is =
         ap (λ (x : Device). with_table x u) st.is
-        ∙ kept_stored d.mark k d.control d.control g t u below is
-        ∙ ap (kept_with (read_at d.mark d.control g u)) (sym (control_stays d u));
-    control = control ∙ ap Ok (sym (control_stays d u));
+        ∙ kept_stored d.mark d.mark.slot d.control d.control d.geometry t u below is
+        ∙ ap (kept_with (read_at d.mark d.control d.geometry u)) (sym (control_stays d u));
+    control =
+        control_alike d size n old image t u st below geometry lies is fits others
+        ∙ ap Ok (sym (control_stays d u));
     copies = ((text, of_text, held), tt);
-    version = version ∙ st.version;
+    version =
+        version_alike d size n old image t u st below geometry lies is fits others
+        ∙ st.version;
   }
 
 -- each outcome of storing it is a disk that means the same
 pub leaves_stored : (d : Device) (size n : ℕ) (old : Image) (t u : Table) (told : List ℕ)
     (o : Outcome)
     → Represents d size old
-    → StandsPlain d size old t
+    → StandsIdle d size old t
     → d.mark.slot < 2
     → IsGeometry d.geometry
     → lies_in size d.geometry (layout_of t).device ≡ true
@@ -255,7 +140,7 @@ leaves_stored d size n old t u told o is st below geometry lies same fits leaves
       (was
       ∙ sym (both_table d.geometry d.mark.slot st.copies.0.0 t old st.copies.0.2 st.copies.0.1))))
       (λ now.
-      means_stored d size n old o.image t u st below geometry lies same fits leaves.others now)
+      means_alike d size n old o.image t u st below geometry lies same fits leaves.others now)
       leaves.table
       ∙ device_stands d size old is;
 }
@@ -263,7 +148,7 @@ leaves_stored d size n old t u told o is st below geometry lies same fits leaves
 -- and so does the disk behind it
 pub mounted_behind : (d : Device) (size n : ℕ) (old new : Image) (t u : Table) (text : List ℕ)
     → Represents d size old
-    → StandsPlain d size old t
+    → StandsIdle d size old t
     → d.mark.slot < 2
     → IsGeometry d.geometry
     → lies_in size d.geometry (layout_of t).device ≡ true
@@ -276,7 +161,7 @@ pub mounted_behind : (d : Device) (size n : ℕ) (old new : Image) (t u : Table)
 mounted_behind d size n old new t u text is st below geometry lies same fits others of_text held =
     let now = represents_stored d size n old new t u st below geometry lies same fits others text
     of_text held in
-    let means = means_stored d size n old new t u st below geometry lies same fits others
+    let means = means_alike d size n old new t u st below geometry lies same fits others
     (both_table d.geometry d.mark.slot text u new held of_text) in
     let both : Ok (mounted_on (with_table d u) new) ≡ Ok (mounted_on d old) =
     sym (device_stands (with_table d u) size new now) ∙ means ∙ device_stands d size old is in

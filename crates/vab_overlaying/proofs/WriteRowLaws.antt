@@ -26,7 +26,7 @@ use Rattle.vab_device.specs.Mounted.{Mounted, mounted_on, state_on, overlay_by, 
 use Rattle.vab_device.specs.Mounted.{in_state}
 use Rattle.vab_device.specs.Mounted.{bytes_at, sectors_read, blocks_there}
 use Rattle.vab_device.specs.Updates.{effect_on}
-use Rattle.vab_overlaying.specs.Over.{exceptions_in}
+use Rattle.vab_device.specs.Mounted.{exceptions_in}
 use Rattle.vab_overlaying.proofs.SeenLaws.{bytes_long}
 
 -- ---- the overlaid partition of a device

@@ -13,14 +13,7 @@ use Rattle.vab_overlay.specs.Overlaid.{IsOverlaid, IsEntered, IsWritten, LeavesO
 use Rattle.vab_overlay.specs.Overlaid.{IsOverlaying}
 use Rattle.vab_device.specs.declared.device.Device.{Device}
 use Rattle.vab_device.specs.declared.device.Part.{Part}
-use Rattle.vab_device.specs.declared.device.PartImage.{PartImage}
-use Rattle.vab_device.specs.declared.device.PartImage.TheVariants.{Kept, Declared, Written}
-
--- the exceptions of the store of a partition
-abbrev pub exceptions_in : PartImage → List Exception
-exceptions_in Kept = []
-exceptions_in Declared = []
-exceptions_in (Written k es) = es
+use Rattle.vab_device.specs.declared.device.PartImage.TheVariants.{Written}
 
 -- the partition with these exceptions, in chunks of one block
 abbrev pub with_list : Part → List Exception → Part

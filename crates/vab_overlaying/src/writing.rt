@@ -15,7 +15,8 @@ ghost use Rattle.vab_device.specs.Kept.{IsDevice};
 ghost use Rattle.vab_device.specs.Mounted.{blocks_there, mounted_on};
 ghost use Rattle.vab_device.specs.Reading.{Represents};
 ghost use Rattle.vab_device.specs.Updates.{effect_on};
-ghost use Rattle.vab_overlaying.specs.Over.{exceptions_in, with_list, IsStaged, PutsOver};
+ghost use Rattle.vab_overlaying.specs.Over.{with_list, IsStaged, PutsOver};
+ghost use Rattle.vab_device.specs.Mounted.{exceptions_in};
 ghost use Rattle.vab_overlaying.specs.Writes.{IsOfOverlaid};
 
 use vab_device::{Device, Part, PartImage};

@@ -29,7 +29,8 @@ use Rattle.vab_tidy.specs.Stays.{IsInOrder}
 use Rattle.vab_tidy.specs.Tidied.{HasCompleted, alone, may_be_alone}
 use Rattle.vab_tidy.specs.Tidied.{tidy_table}
 use Rattle.vab_tidy.specs.Writes.{IsOfAlone, IsOfTidyings, IsOfTidyTable, IsOfTidying}
-use Rattle.vab_tidy.proofs.KeptLaws.{kept_table, table_now}
+use Rattle.vab_device.proofs.SlotTable.{kept_table}
+use Rattle.vab_tidy.proofs.KeptLaws.{table_now}
 use Rattle.vab_tidy.proofs.StaysLaws.{sector_stays}
 use Rattle.vab_recover.specs.declared.table.Tables.{Tables}
 use Rattle.vab_recover.specs.Opened.{read_of, tables_of, table_if, with_tables, IsOpened}

@@ -31,7 +31,11 @@ use vab_disk::Disk;
 use vab_tidy::{Tidying, prepare};
 
 // The device of what was read in front of the stores, but for its tables, and these.
-fn finish<D: Disk>(alloc: Global, d: &mut D, frame: Frame) -> Result<(Device, Tables), StartFault>
+fn open_framed<D: Disk>(
+    alloc: Global,
+    d: &mut D,
+    frame: Frame,
+) -> Result<(Device, Tables), StartFault>
     requires are { AreHeads (D.size d.old) frame.heads.mark frame.heads.control
         frame.heads.geometry }
     requires there { AreTablesThere (D.size d.old) frame.heads.geometry frame.heads.mark
@@ -105,7 +109,7 @@ pub fn open_behind<D: Disk>(
 {
     match read_tables(alloc, d, &heads.geometry, &heads.mark) {
         Err(fault) => Err(fault),
-        Ok(tables) => finish(alloc, d, Frame { heads, tables }),
+        Ok(tables) => open_framed(alloc, d, Frame { heads, tables }),
     }
 }
 

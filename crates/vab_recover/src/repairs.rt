@@ -19,7 +19,7 @@ use vab_device::Device;
 use vab_disk::Disk;
 use vab_gate::DiskFault;
 use vab_lpstore::repair_table;
-use vab_tidy::{Tidying, carry_out, migrate};
+use vab_tidy::{Tidying, migrate, tidy_if_due};
 
 // Repairs the tables that were read, the source's first.
 fn repair_tables<D: Disk>(d: &mut D, kept: &Device, tables: &Tables) -> Result<(), DiskFault>
@@ -117,6 +117,6 @@ pub fn mend<D: Disk>(
 {
     match mend_copies(d, &kept, &tables) {
         Err(fault) => Err(fault),
-        Ok(()) => carry_out(d, with_tables(kept, tables), tidying),
+        Ok(()) => tidy_if_due(d, with_tables(kept, tables), tidying),
     }
 }

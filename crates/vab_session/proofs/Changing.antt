@@ -1,6 +1,6 @@
 -- What a session does to the sectors of a disk.
 use Rattle.std.proofs.Common.{◌≡◌, ◌∙◌, ◌++◌, ℕ, List, [], ◌∷◌, false, ap, sym, subst}
-use Rattle.std.specs.Prelude.{Result, Ok, Err, IfOk}
+use Rattle.std.specs.Prelude.{Result, Ok, Err, IfOk, OnOk}
 use Rattle.std.specs.List.{flat_map}
 use Rattle.vab_disk.specs.Disk.{Image}
 use Rattle.vab_disk.specs.Calls.{Changes}
@@ -21,6 +21,11 @@ use Rattle.vab_exchanges.specs.Session.{Exchange, packet, spelled}
 use Rattle.vab_exchanges.proofs.Progress.{AreDone, Progress}
 use Rattle.vab_session.specs.Sparing.{AreExchanges, AsksNoSource, asks_source}
 use Rattle.vab_session.specs.Responses.{machine}
+
+-- what holds whatever comes holds where it is done
+pub on_ok : {A E : Type 0} (r : Result A E) (P : Type 0) → P → OnOk r P
+on_ok (Ok x) P is = is
+on_ok (Err e) P is = tt
 
 pub changes_listening : {D : Type 0} (g : Ghosts D) (W : ℕ → List ℕ → Type 0)
     (bytes : List ℕ) (TooFew : List ℕ → Type 0) (old new : D)

@@ -105,7 +105,7 @@ fn left_staged(command: &Command, reply: &Reply, staged: Option<Vec<u8>>) -> Opt
 }
 
 // Carries out a command, and then tells its reply. It hears nothing.
-fn carry_out<P: Port>(
+fn do_command<P: Port>(
     alloc: Global,
     p: &mut P,
     kept: KeptDevice,
@@ -153,54 +153,6 @@ fn carry_out<P: Port>(
     match tell_reply(p, text.as_slice()) {
         Ok(()) => Ok(KeptDevice { device, staged }),
         Err(_) => Err(SessionFault::Sink),
-    }
-}
-
-// Answers a packet that isn't a download. It hears nothing.
-fn command<P: Port>(
-    alloc: Global,
-    p: &mut P,
-    kept: KeptDevice,
-    packet: &[u8],
-) -> Result<KeptDevice, SessionFault>
-    requires plain { AsksNoData (request_of packet.now) }
-    requires device { IsDevice kept.device (P.size p.old) }
-    requires stands { P.is_modelled → Represents kept.device (P.size p.old) (P.seen p.old) }
-    ensures size { P.size p.new ≡ P.size p.old }
-    ensures left { P.is_modelled → P.input_left p.new ≡ P.input_left p.old }
-    ensures device { IfOk result (λ k. IsDevice k.device (P.size p.old)) }
-    ensures follows { IfOk result
-        (λ k. FollowsBy kept.device (asks_source (request_of packet.now) ≡ false) k.device) }
-    ensures stands { P.is_modelled
-        → IfOk result (λ k. Represents k.device (P.size p.old) (P.seen p.new)) }
-    ensures does { P.is_modelled
-        → (before beyond : List ℕ) (count total most : ℕ)
-        → AnswersOrFails (P.size p.old) P.Disk (kept_on kept (P.seen p.old))
-        packet.now before before beyond count total most p.old p.new result }
-    ensures changes { P.is_modelled
-        → ChangesBy P.Disk kept.device (asks_source (request_of packet.now) ≡ false) p.old p.new }
-    ensures copies { P.is_modelled
-        → Held result
-        → HasBothCopies (P.size p.old) (P.seen p.new) }
-    // What is written is what its command writes, where it changes the device.
-    ensures writes { P.is_modelled
-        → WritesPacket P.Disk kept.device (kept_on kept (P.seen p.old)) packet.now p.old p.new }
-    ensures cause { HasCause P.Disk p.old p.new result }
-{
-    match read_command(packet) {
-        Ok(Request::Download(_)) => unreachable!(),
-        Ok(Request::Getvar(asked)) => {
-            let mut text = ArrayVec::new();
-            variable(&kept.device, &asked, &mut text);
-            tell_still(p, kept, text.as_slice())
-        }
-        Ok(Request::Do(command)) => carry_out(alloc, p, kept, &command),
-        Ok(Request::MergeAll) => {
-            let command = Command::Merge(left(&kept.device) + 1);
-            carry_out(alloc, p, kept, &command)
-        }
-        Ok(Request::BootAndEnd) => carry_out(alloc, p, kept, &Command::Boot),
-        Err(bad) => tell_still(p, kept, bad_text(bad)),
     }
 }
 
@@ -279,22 +231,6 @@ fn download<P: Port>(
     })
 }
 
-// How many bytes a packet announces, where it is a download.
-fn announced(packet: &[u8]) -> Option<u32>
-    ensures { MatchOption result
-        (AsksNoData (request_of packet.now))
-        (λ size. request_of packet.now ≡ Ok (Download size)) }
-{
-    match read_command(packet) {
-        Ok(Request::Download(size)) => Some(size),
-        Ok(Request::Getvar(_)) => None,
-        Ok(Request::Do(_)) => None,
-        Ok(Request::MergeAll) => None,
-        Ok(Request::BootAndEnd) => None,
-        Err(_) => None,
-    }
-}
-
 /// Whether the session ends behind a packet.
 #[tactic(auto, unfolding(vab_exchanges::specs::Session::ends_session))]
 pub(crate) fn is_last(packet: &[u8]) -> bool
@@ -306,6 +242,7 @@ pub(crate) fn is_last(packet: &[u8]) -> bool
 /// Answers a packet, with the data that it brings. Where the device that is kept is that of the
 /// disk and nothing is pending, in each outcome since some front of the reply is told and the disk
 /// is in one of the item's steps, and where the whole reply is told, in the last of them.
+#[tactic(auto, using(crate::proofs::Changing::on_ok))]
 pub(crate) fn answer<P: Port>(
     alloc: Global,
     p: &mut P,
@@ -350,14 +287,19 @@ pub(crate) fn answer<P: Port>(
         → WritesPacket P.Disk kept.device (kept_on kept (P.seen p.old)) packet.now p.old p.new }
     ensures cause { HasCause P.Disk p.old p.new result }
 {
-    match announced(packet) {
-        Some(size) => match download(alloc, p, reader, kept, size) {
-            Ok(kept) => Ok(kept),
-            Err(fault) => Err(fault),
-        },
-        None => match command(alloc, p, kept, packet) {
-            Ok(kept) => Ok(kept),
-            Err(fault) => Err(fault),
-        },
+    match read_command(packet) {
+        Ok(Request::Download(size)) => download(alloc, p, reader, kept, size),
+        Ok(Request::Getvar(asked)) => {
+            let mut text = ArrayVec::new();
+            variable(&kept.device, &asked, &mut text);
+            tell_still(p, kept, text.as_slice())
+        }
+        Ok(Request::Do(command)) => do_command(alloc, p, kept, &command),
+        Ok(Request::MergeAll) => {
+            let command = Command::Merge(left(&kept.device) + 1);
+            do_command(alloc, p, kept, &command)
+        }
+        Ok(Request::BootAndEnd) => do_command(alloc, p, kept, &Command::Boot),
+        Err(bad) => tell_still(p, kept, bad_text(bad)),
     }
 }

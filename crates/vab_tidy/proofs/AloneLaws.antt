@@ -41,44 +41,13 @@ plain_again slot l = (λ i. record {
   flags = l.flags;
 })
 
-plain_groups : (slot : ℕ) (l : Layout)
-    → (plain slot l).groups ≡ default_group ∷ own_groups slot l.groups
-unfolding plain
-plain_groups slot l = refl
-
 -- the table of a layout is of minor 2
 pub same_minor : (u : Table) (l : Layout) → u ≡ table_of l → as_minor_2 u ≡ u
 unfolding table_of
 same_minor u l is = subst (λ (x : Table). as_minor_2 x ≡ x) (sym is) refl
 
-module _ (slot : ℕ) (t u : Table) (is : layout_of u ≡ plain slot (layout_of t)) where
-  pub device_is : (layout_of u).device ≡ (layout_of t).device
-  device_is = ap (λ (l : Layout). l.device) is ∙ plain_device slot (layout_of t)
-
-  pub own_is : own_parts slot (layout_of u).parts ≡ own_parts slot (layout_of t).parts
-  own_is =
-      ap (λ (l : Layout). own_parts slot l.parts) is
-      ∙ ap (own_parts slot) (plain_parts slot (layout_of t))
-      ∙ own_again slot (layout_of t).parts
-
-  pub parts_are : parts_of slot (layout_of u) ≡ parts_of slot (layout_of t)
-  parts_are = (λ i. map (part_on (device_is i).first_logical_sector) (own_is i))
-
-  pub cap_is : cap_of (layout_of u).device ≡ cap_of (layout_of t).device
-  cap_is = ap cap_of device_is
-
-  groups_are : u.groups ≡ default_group ∷ own_groups slot t.groups
-  groups_are =
-      sym (layout_groups u)
-      ∙ ap (λ (l : Layout). l.groups) is
-      ∙ plain_groups slot (layout_of t)
-      ∙ ap (λ (gs : List Group). default_group ∷ own_groups slot gs) (layout_groups t)
-
-  pub limits_are : limits_of slot u.groups ≡ limits_of slot t.groups
-  limits_are =
-      ap (limits_of slot) groups_are
-      ∙ (λ i. map (λ g. record { name = base_of g.name; limit = g.maximum_size })
-      (groups_again slot t.groups i))
-
-  pub place_is : plain slot (layout_of u) ≡ plain slot (layout_of t)
-  place_is = ap (plain slot) is ∙ plain_again slot (layout_of t)
+-- and it is the same without stores
+pub place_is : (slot : ℕ) (t u : Table)
+    → layout_of u ≡ plain slot (layout_of t)
+    → plain slot (layout_of u) ≡ plain slot (layout_of t)
+place_is slot t u is = ap (plain slot) is ∙ plain_again slot (layout_of t)

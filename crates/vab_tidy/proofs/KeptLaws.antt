@@ -13,35 +13,9 @@ use Rattle.vab_device.specs.Kept.{lies_in, reads_both}
 use Rattle.vab_tidy.specs.declared.prepared.Alone.{Alone}
 use Rattle.vab_tidy.specs.Kept.{with_table}
 use Rattle.vab_tidy.specs.Planned.{IsAlone}
-use Rattle.vab_tidy.proofs.AloneLaws.{device_is}
-
--- the kept table of a slot
-kept_at : (size : ℕ) (g : Geometry) (n : ℕ) (a b : Option Table) (t : Table)
-    → n < 2
-    → IsKeptTable size g 0 a
-    → IsKeptTable size g 1 b
-    → (if n == 0 then a else b) ≡ Some t
-    → IsTableOf size g n t
-kept_at size g zero a b t below of_a of_b is = subst (IsKeptTable size g 0) is of_a
-kept_at size g (suc zero) a b t below of_a of_b is = subst (IsKeptTable size g 1) is of_b
-kept_at size g (suc (suc n)) a b t below of_a of_b is = absurd (omega (arith, below))
-
-pub kept_table : (d : Device) (size : ℕ) (t : Table)
-    → IsDevice d size
-    → table_of_slot d d.mark.slot ≡ Some t
-    → IsTableOf size d.geometry d.mark.slot t
-kept_table d size t dev is =
-    kept_at size d.geometry d.mark.slot d.table_a d.table_b t dev.slot dev.table_a dev.table_b is
-
-some_at : (x : Option Table) → is_some x ≡ true → (t : Table) × (x ≡ Some t)
-some_at None is = absurd (let no : false ≡ true = is in cc)
-some_at (Some t) is = (t, refl)
-
--- there is one of the slot of the mark
-pub has_table : (d : Device) (size : ℕ)
-    → IsDevice d size
-    → (t : Table) × (table_of_slot d d.mark.slot ≡ Some t)
-has_table d size dev = some_at (table_of_slot d d.mark.slot) dev.source
+use Rattle.vab_device.proofs.AlikeLaws.{device_is}
+use Rattle.vab_device.proofs.SlotTable.{no_update}
+use Rattle.vab_tidy.proofs.AloneLaws.{place_is}
 
 -- the table of the slot alone keeps the rules of a kept table
 pub alone_of : (size slot : ℕ) (g : Geometry) (t : Table) (x : Alone)
@@ -53,7 +27,8 @@ alone_of size slot g t x geometry of is = record {
   rules = is.rules;
   small = omega (arith, is.size, geometry.most);
   own = is.own;
-  lies = ap (lies_in size g) (device_is slot t x.table is.layout) ∙ of.lies;
+  lies =
+      ap (lies_in size g) (device_is slot t x.table (place_is slot t x.table is.layout)) ∙ of.lies;
 }
 
 -- ---- the device with it
@@ -92,13 +67,6 @@ other_at : (n : ℕ) (a b : Option Table) (u : Table)
 other_at zero a b u below = refl
 other_at (suc zero) a b u below = refl
 other_at (suc (suc n)) a b u below = absurd (omega (arith, below))
-
-no_update : (apart : Bool) (source : ℕ) (s t : Option Table)
-    → is_some t ≡ false
-    → IsUpdate apart source s t
-no_update apart source None t none = tt
-no_update apart source (Some s) None none = tt
-no_update apart source (Some s) (Some t) none = absurd (let no : true ≡ false = none in cc)
 
 -- the table that is kept of the slot
 pub table_now : (d : Device) (u : Table)

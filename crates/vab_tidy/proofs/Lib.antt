@@ -2,8 +2,6 @@ pub mod AloneLaws
 pub mod KeptLaws
 pub mod MarkLaws
 pub mod MigrationLaws
-pub mod PlaceLaws
 pub mod RaiseLaws
-pub mod StandsLaws
 pub mod StaysLaws
 pub mod TableLaws

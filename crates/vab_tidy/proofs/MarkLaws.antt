@@ -33,7 +33,7 @@ use Rattle.vab_device.proofs.StayLaws.{copy_stays, copies_from}
 use Rattle.vab_device.proofs.StoreLaws.{statuses_kept}
 use Rattle.vab_tidy.specs.Tidied.{HasCompleted, is_completed}
 use Rattle.vab_tidy.specs.Tidied.{says_completed}
-use Rattle.vab_tidy.proofs.StandsLaws.{StandsIdle, read_at}
+use Rattle.vab_device.proofs.StandsLaws.{StandsIdle, read_at}
 
 -- ---- the mark of a merge that has ended
 

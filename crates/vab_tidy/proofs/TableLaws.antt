@@ -34,13 +34,15 @@ use Rattle.vab_device.proofs.SameLaws.{mark_same, geometry_same, images_same, ve
 use Rattle.vab_device.proofs.UpdateLaws.{kept_with}
 use Rattle.vab_tidy.specs.Kept.{with_table}
 use Rattle.vab_tidy.specs.Stays.{LeavesSame}
-use Rattle.vab_tidy.proofs.AloneLaws.{device_is, own_is, parts_are, cap_is, limits_are, place_is}
-use Rattle.vab_tidy.proofs.PlaceLaws.{table_is}
+use Rattle.vab_device.proofs.AlikeLaws.{parts_are, cap_is, limits_are, reads_alike, means_alike}
+use Rattle.vab_device.proofs.AlikeLaws.{control_alike, version_alike}
+use Rattle.vab_tidy.proofs.AloneLaws.{place_is}
+use Rattle.vab_device.proofs.PlaceLaws.{table_is}
 use Rattle.vab_device.proofs.RepairLaws.{ends_within}
 use Rattle.vab_marks.specs.declared.mark.MarkPhase.TheVariants as marks
 use Rattle.vab_marks.specs.declared.mark.UpdateMark.{UpdateMark}
 use Rattle.vab_marks.specs.Mark.{rephased, resloted}
-use Rattle.vab_tidy.proofs.StandsLaws.{StandsIdle, read_at}
+use Rattle.vab_device.proofs.StandsLaws.{StandsIdle, read_at}
 
 -- ---- what is kept
 
@@ -52,59 +54,17 @@ kept_alone : (m : UpdateMark) (slot : ℕ) (seen c : Control) (g : Geometry) (t 
     ≡ kept_with (read_at (resloted slot m) seen g u) c
 kept_alone m zero seen c g t u below is =
     (λ i. record (kept_with (read_at (resloted 0 m) seen g u) c) {
-      cap = sym (cap_is 0 t u is) i;
-      groups = sym (limits_are 0 t u is) i;
-      a = Some (sym (parts_are 0 t u is) i);
+      cap = sym (cap_is 0 t u (place_is 0 t u is)) i;
+      groups = sym (limits_are 0 t u (place_is 0 t u is)) i;
+      a = Some (sym (parts_are 0 t u (place_is 0 t u is)) i);
     })
 kept_alone m (suc zero) seen c g t u below is =
     (λ i. record (kept_with (read_at (resloted 1 m) seen g u) c) {
-      cap = sym (cap_is 1 t u is) i;
-      groups = sym (limits_are 1 t u is) i;
-      b = Some (sym (parts_are 1 t u is) i);
+      cap = sym (cap_is 1 t u (place_is 1 t u is)) i;
+      groups = sym (limits_are 1 t u (place_is 1 t u is)) i;
+      b = Some (sym (parts_are 1 t u (place_is 1 t u is)) i);
     })
 kept_alone m (suc (suc n)) seen c g t u below is = absurd (omega (arith, below))
-
--- the images and the places are the same
-mounted_alone : (m : UpdateMark) (slot : ℕ) (seen : Control) (g : Geometry) (t u : Table)
-    (old image : Image)
-    → slot < 2
-    → layout_of u ≡ plain slot (layout_of t)
-    → images_on image (kept (read_at (resloted slot m) seen g t)).a
-    ≡ images_on old (kept (read_at (resloted slot m) seen g t)).a
-    → images_on image (kept (read_at (resloted slot m) seen g t)).b
-    ≡ images_on old (kept (read_at (resloted slot m) seen g t)).b
-    → mounted_on (kept (read_at (resloted slot m) seen g u)) image
-    ≡ mounted_on (kept (read_at (resloted slot m) seen g t)) old
-unfolding state_on
-mounted_alone m zero seen g t u old image below is a b =
-    let blocks : images_on image (Some (parts_of 0 (layout_of u)))
-    ≡ images_on old (Some (parts_of 0 (layout_of t))) =
-    ap (λ ps. images_on image (Some ps)) (parts_are 0 t u is) ∙ a in
-    (λ i. record (mounted_on (kept (read_at (resloted 0 m) seen g u)) image) {
-      state = record (state_on (kept (read_at (resloted 0 m) seen g u)) image) {
-        cap = cap_is 0 t u is i;
-        groups = limits_are 0 t u is i;
-        a = blocks i;
-      };
-      places = record (mounted_on (kept (read_at (resloted 0 m) seen g u)) image).places {
-        a = Some (place_is 0 t u is i);
-      };
-    })
-mounted_alone m (suc zero) seen g t u old image below is a b =
-    let blocks : images_on image (Some (parts_of 1 (layout_of u)))
-    ≡ images_on old (Some (parts_of 1 (layout_of t))) =
-    ap (λ ps. images_on image (Some ps)) (parts_are 1 t u is) ∙ b in
-    (λ i. record (mounted_on (kept (read_at (resloted 1 m) seen g u)) image) {
-      state = record (state_on (kept (read_at (resloted 1 m) seen g u)) image) {
-        cap = cap_is 1 t u is i;
-        groups = limits_are 1 t u is i;
-        b = blocks i;
-      };
-      places = record (mounted_on (kept (read_at (resloted 1 m) seen g u)) image).places {
-        b = Some (place_is 1 t u is i);
-      };
-    })
-mounted_alone m (suc (suc n)) seen g t u old image below is a b = absurd (omega (arith, below))
 
 -- ---- the disk
 
@@ -117,65 +77,11 @@ module _
     (is : layout_of u ≡ plain d.mark.slot (layout_of t))
     (fits : n ≤ copy_sectors d.geometry)
     (others : SameElsewhere d.geometry d.mark.slot n old image) where
-  abbrev k : ℕ
-  k = d.mark.slot
-
-  abbrev g : Geometry
-  g = d.geometry
-
-  abbrev r : Read
-  r = read_at d.mark d.control d.geometry t
-
-  before : (s : ℕ) → s < 4120 → image s ≡ old s
-  unfolding primary_of backup_of
-  before s lt = others s (inl (omega (arith, lt))) (inl (omega (arith, lt)))
-
-  behind : (s : ℕ) → end_of g k ≤ s → image s ≡ old s
-  behind s le =
-      let apart : primary_of g k + copy_sectors g ≤ backup_of g k =
-      copies_apart g k (omega (arith, geometry.two, below)) in
-      others s (inr (omega (arith, le, apart, fits))) (inr (omega (arith, le, fits)))
-
-  control : control_of (image 4) ≡ Ok d.control
-  control = ap control_of (before 4 (omega arith)) ∙ st.control
-
-  version : version_at image ≡ version_at old
-  version = version_same old image (before 2048 (omega arith))
-
-  -- the slot's own partitions are the same
-  rules : own_check (most_at image) k u ≡ None
-  rules =
-      ap (λ ps. names_none (bad_part (most_at image) k [] ps)) (own_is k t u is)
-      ∙ (first_kept (own_check (most_at image) k t) []
-      (parts_under r old image version st.reads.parts)).0
-
-  module _ (there : slot_table d.geometry d.mark.slot image ≡ Ok u) where
-    table : table_at size g k image ≡ Ok u
-    table =
-        table_is size g k image u there
-        (ap (lies_in size g) (device_is k t u is) ∙ lies)
-
-    pub reads_alone : Reads size (read_at d.mark d.control d.geometry u) image
-    reads_alone =
-        reads_idle size image (rephased marks.Idle d.mark) st.reads.enough
-        (mark_same old image (before 2048 (omega arith)) ∙ st.reads.mark)
-        refl d.control g u refl
-        (control_seen_in _ _ image d.control control)
-        (geometry_same size old image (before 4104 (omega arith)) (before 4112 (omega arith))
-        ∙ st.reads.geometry)
-        table rules (single_works r refl st.reads.state)
-
-    pub means_alone : device size image ≡ device size old
-    means_alone =
-        let within = ends_within g k geometry below in
-        device_of size (read_at d.mark d.control g u) image reads_alone
-        ∙ ap Ok
-        (mounted_alone d.mark k d.control g t u old image below is
-        (images_same old image (kept r).a
-        (λ s of. behind s (images_behind size (end_of g k) 0 _ _ r old s st.reads within of)))
-        (images_same old image (kept r).b
-        (λ s of. behind s (images_behind size (end_of g k) 1 _ _ r old s st.reads within of))))
-        ∙ sym (device_of size r old st.reads)
+  pub means_alone : slot_table d.geometry d.mark.slot image ≡ Ok u
+      → device size image ≡ device size old
+  means_alone =
+      means_alike d size n old image t u st below geometry lies
+      (place_is d.mark.slot t u is) fits others
 
   -- where both copies hold the text, the kept device is that of the disk
   pub represents_alone : (text : List ℕ)
@@ -183,14 +89,22 @@ module _
       → BothHold d.geometry d.mark.slot text image
       → Represents (with_table u d) size image
   represents_alone text of_text held = record {
-    read = read_at d.mark d.control g u;
-    reads = reads_alone (both_table g k text u image held of_text);
+    read = read_at d.mark d.control d.geometry u;
+    reads =
+        reads_alike d size n old image t u st below geometry lies
+        (place_is d.mark.slot t u is) fits others
+        (both_table d.geometry d.mark.slot text u image held of_text);
     is =
         ap (with_table u) st.is
-        ∙ kept_alone d.mark k d.control d.control g t u below is;
-    control = control;
+        ∙ kept_alone d.mark d.mark.slot d.control d.control d.geometry t u below is;
+    control =
+        control_alike d size n old image t u st below geometry lies
+        (place_is d.mark.slot t u is) fits others;
     copies = ((text, of_text, held), tt);
-    version = version ∙ st.version;
+    version =
+        version_alike d size n old image t u st below geometry lies
+        (place_is d.mark.slot t u is) fits others
+        ∙ st.version;
   }
 
 -- each outcome of storing it is a disk that means the same

@@ -96,7 +96,7 @@ fn tidy<D: Disk>(d: &mut D, device: Device, tidying: Tidying) -> Result<Device, 
 /// two copies, and then one gate writes the mark that there is no update. The disk means the same
 /// in each outcome, and the device that is kept has the new table in place of the old one. Where
 /// there is nothing to do the disk isn't asked. Takes no memory.
-pub fn carry_out<D: Disk>(
+pub fn tidy_if_due<D: Disk>(
     d: &mut D,
     device: Device,
     tidying: Option<Tidying>,

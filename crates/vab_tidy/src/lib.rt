@@ -6,6 +6,6 @@ mod carry;
 mod migration;
 mod prepared;
 
-pub use carry::carry_out;
+pub use carry::tidy_if_due;
 pub use migration::migrate;
 pub use prepared::{Alone, Tidying, prepare};

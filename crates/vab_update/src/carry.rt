@@ -32,7 +32,7 @@ fn refusal_in(reply: &Reply) -> Option<Refusal>
 }
 
 /// Carries out a command, where these bytes are staged.
-pub(crate) fn carry_out<D: Disk>(
+pub(crate) fn follow_order<D: Disk>(
     alloc: Global,
     d: &mut D,
     device: Device,

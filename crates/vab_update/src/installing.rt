@@ -13,7 +13,7 @@ ghost use Rattle.vab_update.specs.Install.{image_orders, install_orders};
 ghost use Rattle.vab_update.specs.Install.{size_command, target_name};
 
 use crate::Stop;
-use crate::carry::carry_out;
+use crate::carry::follow_order;
 use std::alloc::Global;
 use vab_bytes::Name36;
 use vab_device::Device;
@@ -64,12 +64,12 @@ fn install_image<D: Disk>(
     let full = full_name(&image.name, 1 - source);
     let name = full.text();
     let sized = size_command(&device, source, image, name);
-    let next = carry_out(alloc, d, device, &sized, None)?;
+    let next = follow_order(alloc, d, device, &sized, None)?;
     let snapshot = Command::Snapshot(name, image.store);
-    let next = carry_out(alloc, d, next, &snapshot, None)?;
+    let next = follow_order(alloc, d, next, &snapshot, None)?;
     let bytes = image.bytes.as_slice();
     let flash = Command::Flash(name, Chunk::One);
-    carry_out(alloc, d, next, &flash, Some(bytes))
+    follow_order(alloc, d, next, &flash, Some(bytes))
 }
 
 /// Installs the images of a set into the slot that isn't running, as an update that is ready, and
@@ -93,12 +93,12 @@ pub fn install<D: Disk>(
 {
     let source = device.current();
     *at = None;
-    let mut next = carry_out(alloc, d, device, &Command::Begin, None)?;
+    let mut next = follow_order(alloc, d, device, &Command::Begin, None)?;
     for image in set.as_slice() {
         *at = Some(image.name);
         next = install_image(alloc, d, next, source, image)?;
     }
     *at = None;
-    let next = carry_out(alloc, d, next, &Command::Finish, None)?;
-    carry_out(alloc, d, next, &Command::SetActive(1 - source), None)
+    let next = follow_order(alloc, d, next, &Command::Finish, None)?;
+    follow_order(alloc, d, next, &Command::SetActive(1 - source), None)
 }

@@ -35,8 +35,8 @@ use Rattle.vab_device.specs.Updates.{wiped}
 use Rattle.vab_device.proofs.DoesLaws.{does_nothing, step_follows}
 use Rattle.vab_device.proofs.ReadingLaws.{device_same, device_stands}
 use Rattle.vab_device.proofs.RepairLaws.{repair_same}
-use Rattle.vab_tidy.proofs.KeptLaws.{has_table}
-use Rattle.vab_tidy.proofs.StandsLaws.{StandsIdle, read_at, stands_idle}
+use Rattle.vab_device.proofs.SlotTable.{has_table}
+use Rattle.vab_device.proofs.StandsLaws.{StandsIdle, read_at, stands_idle}
 use Rattle.vab_wipe.specs.Kept.{with_slot, with_wiped}
 use Rattle.vab_wipe.specs.Prepared.{Refuses, IsPrepared}
 use Rattle.vab_wipe.specs.Writes.{IsOfWipe}

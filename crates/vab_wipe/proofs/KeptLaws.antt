@@ -28,15 +28,10 @@ use Rattle.vab_device.specs.Mounted.{table_placed, places_on}
 use Rattle.vab_device.specs.Updates.{layout_at, is_geometry, has_device}
 use Rattle.vab_device.proofs.OverlayLaws.{plain_none}
 use Rattle.vab_device.proofs.OwnParts.{parts_kept}
-use Rattle.vab_tidy.proofs.KeptLaws.{kept_table}
+use Rattle.vab_device.proofs.PhaseCases.{cases_slot}
+use Rattle.vab_device.proofs.SlotTable.{kept_table, retabled_a, retabled_b}
 use Rattle.vab_wipe.specs.Kept.{with_wiped}
 use Rattle.vab_wipe.specs.Prepared.{other, or_later, refused_image, IsTaken, IsEmptied}
-
--- a slot is a or b
-slot_cases : (k : ℕ) → k < 2 → (k ≡ 0) ⊎ (k ≡ 1)
-slot_cases zero below = inl refl
-slot_cases (suc zero) below = inr refl
-slot_cases (suc (suc n)) below = absurd (omega (arith, below))
 
 -- ---- the block device of the slot's table
 
@@ -147,130 +142,16 @@ module _
     lies = new_lies;
   }
 
-  new_parts : AreParts size (parts_of d.mark.slot (layout_of u))
-  new_parts =
-      parts_kept size d.mark.slot d.geometry (layout_of u) kept.enough
-      (layout_keeps u emptied.rules) emptied.own new_lies
-
-  -- the other slot has no table
-  no_other : is_some (table_of_slot d (other_slot d.mark.slot)) ≡ false
-  no_other = kept.target ∙ ap reads_both taken.are.idle
-
-  no_update : (x : Option Table)
-      → is_some x ≡ false
-      → IsUpdate d.mark.apart d.mark.slot (Some u) x
-  no_update None none = tt
-  no_update (Some x) none = absurd (let no : true ≡ false = none in cc)
-
-  slot_has : (slot : ℕ) → has_slot d.mark.phase d.mark.slot slot ≡ (d.mark.slot == slot)
-  slot_has slot =
-      ap (λ (p : MarkPhase). has_slot p d.mark.slot slot) taken.are.idle
-
-  -- none of its partitions is overlaid
-  no_overlay : (parts : Option (List Part)) → IsOverlay size parts d.overlay
-  no_overlay parts =
-      subst (IsOverlay size parts) (sym (plain_none d size kept taken.are.bare)) tt
-
-  of_a : d.mark.slot ≡ 0
-      → IsDevice
-      (record d {
-        groups = limits_of d.mark.slot u.groups;
-        a = Some (parts_of d.mark.slot (layout_of u));
-        table_a = Some u;
-      })
-      size
-  of_a e =
-      let none : is_some d.table_b ≡ false =
-      ap (λ (n : ℕ). is_some (table_of_slot d (other_slot n))) (sym e) ∙ no_other in
-      record {
-        enough = kept.enough;
-        geometry = kept.geometry;
-        control = kept.control;
-        phase = kept.phase;
-        slot = kept.slot;
-        flags = kept.flags;
-        current = kept.current;
-        has_a = sym (slot_has 0 ∙ ap (λ (n : ℕ). n == 0) e);
-        has_b = kept.has_b;
-        copies_on = kept.copies_on;
-        parts_a = new_parts;
-        parts_b = kept.parts_b;
-        table_a = subst (λ (n : ℕ). IsTableOf size d.geometry n u) e new_table;
-        table_b = kept.table_b;
-        source = ap (λ (n : ℕ). is_some (if n == 0 then Some u else d.table_b)) e;
-        target =
-            ap (λ (n : ℕ). is_some (if other_slot n == 0 then Some u else d.table_b)) e
-            ∙ none
-            ∙ sym (ap reads_both taken.are.idle);
-        planned = kept.planned;
-        plan = kept.plan;
-        update =
-            subst
-            (λ (x : Option Table).
-            IsUpdate d.mark.apart d.mark.slot x
-            (if other_slot d.mark.slot == 0 then Some u else d.table_b))
-            (sym (ap (λ (n : ℕ). if n == 0 then Some u else d.table_b) e))
-            (no_update (if other_slot d.mark.slot == 0 then Some u else d.table_b)
-            (ap (λ (n : ℕ). is_some (if other_slot n == 0 then Some u else d.table_b)) e
-            ∙ none));
-        overlaid = kept.overlaid;
-        overlay =
-            no_overlay
-            (if d.mark.slot == 0 then Some (parts_of d.mark.slot (layout_of u)) else d.b);
-      }
-
-  of_b : d.mark.slot ≡ 1
-      → IsDevice
-      (record d {
-        groups = limits_of d.mark.slot u.groups;
-        b = Some (parts_of d.mark.slot (layout_of u));
-        table_b = Some u;
-      })
-      size
-  of_b e =
-      let none : is_some d.table_a ≡ false =
-      ap (λ (n : ℕ). is_some (table_of_slot d (other_slot n))) (sym e) ∙ no_other in
-      record {
-        enough = kept.enough;
-        geometry = kept.geometry;
-        control = kept.control;
-        phase = kept.phase;
-        slot = kept.slot;
-        flags = kept.flags;
-        current = kept.current;
-        has_a = kept.has_a;
-        has_b = sym (slot_has 1 ∙ ap (λ (n : ℕ). n == 1) e);
-        copies_on = kept.copies_on;
-        parts_a = kept.parts_a;
-        parts_b = new_parts;
-        table_a = kept.table_a;
-        table_b = subst (λ (n : ℕ). IsTableOf size d.geometry n u) e new_table;
-        source = ap (λ (n : ℕ). is_some (if n == 0 then d.table_a else Some u)) e;
-        target =
-            ap (λ (n : ℕ). is_some (if other_slot n == 0 then d.table_a else Some u)) e
-            ∙ none
-            ∙ sym (ap reads_both taken.are.idle);
-        planned = kept.planned;
-        plan = kept.plan;
-        update =
-            subst
-            (λ (x : Option Table).
-            IsUpdate d.mark.apart d.mark.slot x
-            (if other_slot d.mark.slot == 0 then d.table_a else Some u))
-            (sym (ap (λ (n : ℕ). if n == 0 then d.table_a else Some u) e))
-            (no_update (if other_slot d.mark.slot == 0 then d.table_a else Some u)
-            (ap (λ (n : ℕ). is_some (if other_slot n == 0 then d.table_a else Some u)) e
-            ∙ none));
-        overlaid = kept.overlaid;
-        overlay =
-            no_overlay
-            (if d.mark.slot == 0 then d.a else Some (parts_of d.mark.slot (layout_of u)));
-      }
-
   pub wiped_kept : IsDevice (with_wiped d u) size
-  wiped_kept = elim (slot_cases d.mark.slot kept.slot) [
-    | inl e ↦ rw (ap (λ (n : ℕ). n == 0) e) (of_a e)
-    | inr e ↦ rw (ap (λ (n : ℕ). n == 0) e) (of_b e)
+  wiped_kept = elim (cases_slot d.mark.slot kept.slot) [
+    | inl e ↦
+        rw (ap (λ (n : ℕ). n == 0) e)
+        (retabled_a d size u (limits_of d.mark.slot u.groups) kept taken.are.idle taken.are.bare
+        new_table e)
+    | inr e ↦
+        rw (ap (λ (n : ℕ). n == 0) e)
+        (retabled_b d size u (limits_of d.mark.slot u.groups) kept taken.are.idle taken.are.bare
+        new_table e)
   ]
 
 -- its boot control is the same

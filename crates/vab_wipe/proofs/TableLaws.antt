@@ -43,8 +43,8 @@ use Rattle.vab_device.proofs.OpeningLaws.{control_seen_in}
 use Rattle.vab_device.proofs.ReadingLaws.{device_of, single_works}
 use Rattle.vab_device.proofs.SameLaws.{mark_same, geometry_same, version_same}
 use Rattle.vab_device.proofs.UpdateLaws.{kept_with}
-use Rattle.vab_tidy.proofs.PlaceLaws.{table_is}
-use Rattle.vab_tidy.proofs.StandsLaws.{StandsIdle, read_at}
+use Rattle.vab_device.proofs.PlaceLaws.{table_is}
+use Rattle.vab_device.proofs.StandsLaws.{StandsIdle, read_at}
 use Rattle.vab_wipe.specs.Kept.{with_wiped}
 use Rattle.vab_wipe.proofs.KeptLaws.{control_stays}
 

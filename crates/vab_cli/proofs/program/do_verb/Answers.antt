@@ -15,10 +15,10 @@ use Rattle.vab_cli.proofs.program.do_verb.Goals as goal
 pub returns-in-Boot-clause-does : goal.returns-in-Boot-clause-does
 returns-in-Boot-clause-does g c =
     let is : meaning_of c.args.verb ≡ words.Boot = search rules in
-    let done = c.carry_out.ensures in
+    let done = c.run_command.ensures in
     let old = c.args.port.now in
-    let new = c.carry_out.new.port in
-    let status = c.carry_out.result in
+    let new = c.run_command.new.port in
+    let status = c.run_command.result in
     subst (λ (m : Meaning). DoesVerb g.P.Disk m old new status) (sym is)
     (record {
       runs = λ t. record { opened = done.runs t; none = done.none t };
@@ -41,10 +41,10 @@ returns-in-Boot-clause-does g c =
 pub returns-in-Mark-clause-does : goal.returns-in-Mark-clause-does
 returns-in-Mark-clause-does g c =
     let is : meaning_of c.args.verb ≡ words.Mark = search rules in
-    let done = c.carry_out-in-Mark.ensures in
+    let done = c.run_command-in-Mark.ensures in
     let old = c.args.port.now in
-    let new = c.carry_out-in-Mark.new.port in
-    let status = c.carry_out-in-Mark.result in
+    let new = c.run_command-in-Mark.new.port in
+    let status = c.run_command-in-Mark.result in
     subst (λ (m : Meaning). DoesVerb g.P.Disk m old new status) (sym is)
     (record {
       runs = λ t. record { opened = done.runs t; none = done.none t };
@@ -67,10 +67,10 @@ returns-in-Mark-clause-does g c =
 pub returns-in-BeginMerge-clause-does : goal.returns-in-BeginMerge-clause-does
 returns-in-BeginMerge-clause-does g c =
     let is : meaning_of c.args.verb ≡ words.BeginMerge = search rules in
-    let done = c.carry_out-in-BeginMerge.ensures in
+    let done = c.run_command-in-BeginMerge.ensures in
     let old = c.args.port.now in
-    let new = c.carry_out-in-BeginMerge.new.port in
-    let status = c.carry_out-in-BeginMerge.result in
+    let new = c.run_command-in-BeginMerge.new.port in
+    let status = c.run_command-in-BeginMerge.result in
     subst (λ (m : Meaning). DoesVerb g.P.Disk m old new status) (sym is)
     (record {
       runs = λ t. record { opened = done.runs t; none = done.none t };
@@ -93,10 +93,10 @@ returns-in-BeginMerge-clause-does g c =
 pub returns-in-Merge-clause-does : goal.returns-in-Merge-clause-does
 returns-in-Merge-clause-does g c =
     let is : meaning_of c.args.verb ≡ words.Merge c.in-Merge.turns = search rules in
-    let done = c.carry_out-in-Merge.ensures in
+    let done = c.run_command-in-Merge.ensures in
     let old = c.args.port.now in
-    let new = c.carry_out-in-Merge.new.port in
-    let status = c.carry_out-in-Merge.result in
+    let new = c.run_command-in-Merge.new.port in
+    let status = c.run_command-in-Merge.result in
     subst (λ (m : Meaning). DoesVerb g.P.Disk m old new status) (sym is)
     (record {
       runs = λ t. record { opened = done.runs t; none = done.none t };
@@ -119,10 +119,10 @@ returns-in-Merge-clause-does g c =
 pub returns-in-Cancel-clause-does : goal.returns-in-Cancel-clause-does
 returns-in-Cancel-clause-does g c =
     let is : meaning_of c.args.verb ≡ words.Cancel = search rules in
-    let done = c.carry_out-in-Cancel.ensures in
+    let done = c.run_command-in-Cancel.ensures in
     let old = c.args.port.now in
-    let new = c.carry_out-in-Cancel.new.port in
-    let status = c.carry_out-in-Cancel.result in
+    let new = c.run_command-in-Cancel.new.port in
+    let status = c.run_command-in-Cancel.result in
     subst (λ (m : Meaning). DoesVerb g.P.Disk m old new status) (sym is)
     (record {
       runs = λ t. record { opened = done.runs t; none = done.none t };
@@ -145,10 +145,10 @@ returns-in-Cancel-clause-does g c =
 pub returns-in-Activate-clause-does : goal.returns-in-Activate-clause-does
 returns-in-Activate-clause-does g c =
     let is : meaning_of c.args.verb ≡ words.Activate c.in-Activate.slot = search rules in
-    let done = c.carry_out-in-Activate.ensures in
+    let done = c.run_command-in-Activate.ensures in
     let old = c.args.port.now in
-    let new = c.carry_out-in-Activate.new.port in
-    let status = c.carry_out-in-Activate.result in
+    let new = c.run_command-in-Activate.new.port in
+    let status = c.run_command-in-Activate.result in
     subst (λ (m : Meaning). DoesVerb g.P.Disk m old new status) (sym is)
     (record {
       runs = λ t. record { opened = done.runs t; none = done.none t };
@@ -198,10 +198,10 @@ pub returns-in-Digest-clause-does : goal.returns-in-Digest-clause-does
 returns-in-Digest-clause-does g c =
     let is : meaning_of c.args.verb ≡ words.Digest c.as_bytes-in-Digest.result.now =
     search rules in
-    let done = c.carry_out-in-Digest.ensures in
+    let done = c.run_command-in-Digest.ensures in
     let old = c.args.port.now in
-    let new = c.carry_out-in-Digest.new.port in
-    let status = c.carry_out-in-Digest.result in
+    let new = c.run_command-in-Digest.new.port in
+    let status = c.run_command-in-Digest.result in
     subst (λ (m : Meaning). DoesVerb g.P.Disk m old new status) (sym is)
     (record {
       runs = λ t. record { opened = done.runs t; none = done.none t };
@@ -407,60 +407,60 @@ returns-in-Boot-clause-explains g c = λ t.
     let is : meaning_of c.args.verb ≡ words.Boot = search rules in
     subst
     (λ (m : Meaning).
-    Explains g.P.Disk c.args.port.now m c.carry_out.result
-    c.carry_out.new.cause)
+    Explains g.P.Disk c.args.port.now m c.run_command.result
+    c.run_command.new.cause)
     (sym is)
-    (c.carry_out.ensures.unopened t, c.carry_out.ensures.refused t)
+    (c.run_command.ensures.unopened t, c.run_command.ensures.refused t)
 
 pub returns-in-Mark-clause-explains : goal.returns-in-Mark-clause-explains
 returns-in-Mark-clause-explains g c = λ t.
     let is : meaning_of c.args.verb ≡ words.Mark = search rules in
     subst
     (λ (m : Meaning).
-    Explains g.P.Disk c.args.port.now m c.carry_out-in-Mark.result
-    c.carry_out-in-Mark.new.cause)
+    Explains g.P.Disk c.args.port.now m c.run_command-in-Mark.result
+    c.run_command-in-Mark.new.cause)
     (sym is)
-    (c.carry_out-in-Mark.ensures.unopened t, c.carry_out-in-Mark.ensures.refused t)
+    (c.run_command-in-Mark.ensures.unopened t, c.run_command-in-Mark.ensures.refused t)
 
 pub returns-in-BeginMerge-clause-explains : goal.returns-in-BeginMerge-clause-explains
 returns-in-BeginMerge-clause-explains g c = λ t.
     let is : meaning_of c.args.verb ≡ words.BeginMerge = search rules in
     subst
     (λ (m : Meaning).
-    Explains g.P.Disk c.args.port.now m c.carry_out-in-BeginMerge.result
-    c.carry_out-in-BeginMerge.new.cause)
+    Explains g.P.Disk c.args.port.now m c.run_command-in-BeginMerge.result
+    c.run_command-in-BeginMerge.new.cause)
     (sym is)
-    (c.carry_out-in-BeginMerge.ensures.unopened t, c.carry_out-in-BeginMerge.ensures.refused t)
+    (c.run_command-in-BeginMerge.ensures.unopened t, c.run_command-in-BeginMerge.ensures.refused t)
 
 pub returns-in-Merge-clause-explains : goal.returns-in-Merge-clause-explains
 returns-in-Merge-clause-explains g c = λ t.
     let is : meaning_of c.args.verb ≡ words.Merge c.in-Merge.turns = search rules in
     subst
     (λ (m : Meaning).
-    Explains g.P.Disk c.args.port.now m c.carry_out-in-Merge.result
-    c.carry_out-in-Merge.new.cause)
+    Explains g.P.Disk c.args.port.now m c.run_command-in-Merge.result
+    c.run_command-in-Merge.new.cause)
     (sym is)
-    (c.carry_out-in-Merge.ensures.unopened t, c.carry_out-in-Merge.ensures.refused t)
+    (c.run_command-in-Merge.ensures.unopened t, c.run_command-in-Merge.ensures.refused t)
 
 pub returns-in-Cancel-clause-explains : goal.returns-in-Cancel-clause-explains
 returns-in-Cancel-clause-explains g c = λ t.
     let is : meaning_of c.args.verb ≡ words.Cancel = search rules in
     subst
     (λ (m : Meaning).
-    Explains g.P.Disk c.args.port.now m c.carry_out-in-Cancel.result
-    c.carry_out-in-Cancel.new.cause)
+    Explains g.P.Disk c.args.port.now m c.run_command-in-Cancel.result
+    c.run_command-in-Cancel.new.cause)
     (sym is)
-    (c.carry_out-in-Cancel.ensures.unopened t, c.carry_out-in-Cancel.ensures.refused t)
+    (c.run_command-in-Cancel.ensures.unopened t, c.run_command-in-Cancel.ensures.refused t)
 
 pub returns-in-Activate-clause-explains : goal.returns-in-Activate-clause-explains
 returns-in-Activate-clause-explains g c = λ t.
     let is : meaning_of c.args.verb ≡ words.Activate c.in-Activate.slot = search rules in
     subst
     (λ (m : Meaning).
-    Explains g.P.Disk c.args.port.now m c.carry_out-in-Activate.result
-    c.carry_out-in-Activate.new.cause)
+    Explains g.P.Disk c.args.port.now m c.run_command-in-Activate.result
+    c.run_command-in-Activate.new.cause)
     (sym is)
-    (c.carry_out-in-Activate.ensures.unopened t, c.carry_out-in-Activate.ensures.refused t)
+    (c.run_command-in-Activate.ensures.unopened t, c.run_command-in-Activate.ensures.refused t)
 
 pub returns-in-Print-clause-explains : goal.returns-in-Print-clause-explains
 returns-in-Print-clause-explains g c = λ t.
@@ -478,10 +478,10 @@ returns-in-Digest-clause-explains g c = λ t.
     search rules in
     subst
     (λ (m : Meaning).
-    Explains g.P.Disk c.args.port.now m c.carry_out-in-Digest.result
-    c.carry_out-in-Digest.new.cause)
+    Explains g.P.Disk c.args.port.now m c.run_command-in-Digest.result
+    c.run_command-in-Digest.new.cause)
     (sym is)
-    (c.carry_out-in-Digest.ensures.unopened t, c.carry_out-in-Digest.ensures.refused t)
+    (c.run_command-in-Digest.ensures.unopened t, c.run_command-in-Digest.ensures.refused t)
 
 pub returns-in-Make-clause-explains : goal.returns-in-Make-clause-explains
 returns-in-Make-clause-explains g c = λ t.

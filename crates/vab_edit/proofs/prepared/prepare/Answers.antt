@@ -5,7 +5,8 @@ use Rattle.vab_device.specs.declared.device.Device.{Device}
 use Rattle.vab_device.specs.Kept.{IsDevice}
 use Rattle.vab_edit.specs.Prepared.{MayBeEdited}
 use Rattle.vab_edit.specs.Tables.{HasTables}
-use Rattle.vab_edit.proofs.DeviceLaws.{kept_table, kept_update}
+use Rattle.vab_device.proofs.SlotTable.{kept_table_at}
+use Rattle.vab_edit.proofs.DeviceLaws.{kept_update}
 use Rattle.vab_edit.proofs.prepared.prepare.Goals as goal
 
 -- the tables of a device may be edited
@@ -14,8 +15,8 @@ may_be_edited : (d : Device) (size : ℕ) (s t : Table)
     → HasTables d s t
     → MayBeEdited d.mark.apart d.geometry.max d.mark.slot s t
 may_be_edited d size s t kept has =
-    let source = kept_table d size d.mark.slot s kept kept.slot has.source in
-    let target = kept_table d size (other_slot d.mark.slot) t kept (omega arith) has.target in
+    let source = kept_table_at d size d.mark.slot s kept kept.slot has.source in
+    let target = kept_table_at d size (other_slot d.mark.slot) t kept (omega arith) has.target in
     let update = kept_update d size s t kept has in
     record {
       slot = kept.slot;

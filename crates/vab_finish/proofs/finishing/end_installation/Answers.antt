@@ -46,7 +46,7 @@ pub returns-in-Err : goal.returns-in-Err
 returns-in-Err g c = λ staged.
     let d = c.args.device in
     let old = c.args.d.now in
-    let mid = c.prepare.new.d in
+    let mid = c.settle_control.new.d in
     let size = g.D.Disk.size old in
     let told = g.D.Disk.is_modelled in
     let bytes = g.D.Disk.seen old 4 in
@@ -56,7 +56,7 @@ returns-in-Err g c = λ staged.
     (finish_dead told size (g.D.Disk.seen old) d c.requires.kept (c.requires.represents t)
     c.requires.ready))
     (touches_as g.D.Disk d old mid c.cleared-control.result c.cleared-control.ensures.exact
-    c.prepare.ensures.touches)
+    c.settle_control.ensures.touches)
     (λ t s b w. record { ready = c.requires.ready; writes = inl w })
     _ (λ t. finish_follows d (g.D.Disk.seen old) staged c.requires.ready)
     c.in-Err.ensures.faults.cause
@@ -65,13 +65,13 @@ pub returns-in-Err-put_mark : goal.returns-in-Err-put_mark
 returns-in-Err-put_mark g c = λ staged.
     let d = c.args.device in
     let old = c.args.d.now in
-    let mid = c.prepare.new.d in
+    let mid = c.settle_control.new.d in
     let size = g.D.Disk.size old in
     let told = g.D.Disk.is_modelled in
     let bytes = g.D.Disk.seen old 4 in
     let V = Writes told size (g.D.Disk.seen old) d in
     let touches = touches_as g.D.Disk d old mid c.cleared-control.result
-    c.cleared-control.ensures.exact c.prepare.ensures.touches in
+    c.cleared-control.ensures.exact c.settle_control.ensures.touches in
     let step = λ (t : told).
     finish_step told size (g.D.Disk.seen old) d c.requires.kept (c.requires.represents t)
     c.requires.ready (g.D.Disk.seen mid) (touches.seen t)
@@ -95,13 +95,13 @@ pub returns-in-Ok-put_mark : goal.returns-in-Ok-put_mark
 returns-in-Ok-put_mark g c = λ staged.
     let d = c.args.device in
     let old = c.args.d.now in
-    let mid = c.prepare.new.d in
+    let mid = c.settle_control.new.d in
     let size = g.D.Disk.size old in
     let told = g.D.Disk.is_modelled in
     let bytes = g.D.Disk.seen old 4 in
     let V = Writes told size (g.D.Disk.seen old) d in
     let touches = touches_as g.D.Disk d old mid c.cleared-control.result
-    c.cleared-control.ensures.exact c.prepare.ensures.touches in
+    c.cleared-control.ensures.exact c.settle_control.ensures.touches in
     let step = λ (t : told).
     finish_step told size (g.D.Disk.seen old) d c.requires.kept (c.requires.represents t)
     c.requires.ready (g.D.Disk.seen mid) (touches.seen t)

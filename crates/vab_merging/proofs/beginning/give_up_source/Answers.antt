@@ -1,12 +1,9 @@
-use Rattle.std.proofs.Common.{ℕ, List, refl, sym, subst, Ok}
-use Rattle.vab_disk.proofs.CallLaws.{touches_none}
-use Rattle.vab_marks.specs.Mark.{mark_spelling}
+use Rattle.std.proofs.Common.{refl, sym, subst, Ok}
 use Rattle.vab_model.specs.declared.command.Reply.TheVariants as replies
 use Rattle.vab_model.specs.Commands.{BeginMerge}
 use Rattle.vab_device.specs.declared.device.Device.{Device}
 use Rattle.vab_device.specs.Does.{Does}
-use Rattle.vab_device.proofs.DoesLaws.{dead_means, fails_gate, does_follow}
-use Rattle.vab_device.proofs.SameLaws.{dead_of}
+use Rattle.vab_device.proofs.MarkGate.{mark_fails, mark_does}
 use Rattle.vab_merging.specs.Kept.{merging_device}
 use Rattle.vab_merging.specs.GateWrites.{IsOfMergeBegun, merging_mark}
 use Rattle.vab_merging.proofs.KeptLaws.{merging_kept}
@@ -17,44 +14,32 @@ pub returns-in-Err : goal.returns-in-Err
 returns-in-Err g c = λ staged.
     let d = c.args.device in
     let old = c.args.d.now in
-    let size = g.D.Disk.size old in
-    let V : ℕ → List ℕ → Type 0 = λ s b. ⊥ in
     let step = λ (t : g.D.Disk.is_modelled).
-    begin_step size (g.D.Disk.seen old) d c.requires.kept (c.requires.represents t)
-    c.requires.may c.put_mark.ensures.read staged in
-    fails_gate g.D.Disk d staged BeginMerge (IsOfMergeBegun d) old old V
-    (λ t. dead_means d size (g.D.Disk.seen old) V (c.requires.represents t)
-    (dead_of size _ (g.D.Disk.seen old) (λ s. ⊥) (c.requires.represents t).reads
-    (λ s live w. w)))
-    (touches_none g.D.Disk V old) (λ t s b w. absurd w) c.put_mark.new.d
-    (merging_device d) replies.Done 2048
-    (mark_spelling (merging_mark d.mark))
-    (λ t. (step t).effect) (λ t. (step t).represents) c.put_mark.ensures.gate
-    c.put_mark.ensures.touches
+    begin_step (g.D.Disk.size old) (g.D.Disk.seen old) d c.requires.kept
+    (c.requires.represents t) c.requires.may c.put_mark.ensures.read staged in
+    mark_fails g.D.Disk d staged BeginMerge (IsOfMergeBegun d) old c.put_mark.new.d
+    (merging_device d) replies.Done (merging_mark d.mark) c.requires.represents
+    (λ t. (step t).effect) (λ t. (step t).represents)
     (λ s b at. record { may = c.requires.may; mark = at })
-    _ c.in-Err.ensures.faults.cause
+    _ refl c.put_mark.ensures.gate c.put_mark.ensures.touches _ c.in-Err.ensures.faults.cause
 
 pub returns-in-Ok : goal.returns-in-Ok
 returns-in-Ok g c = λ staged.
     let d = c.args.device in
     let old = c.args.d.now in
     let size = g.D.Disk.size old in
-    let V : ℕ → List ℕ → Type 0 = λ s b. ⊥ in
     let step = λ (t : g.D.Disk.is_modelled).
     begin_step size (g.D.Disk.seen old) d c.requires.kept (c.requires.represents t)
     c.requires.may c.put_mark.ensures.read staged in
-    subst (λ (next : Device). Does g.D.Disk d staged BeginMerge (IsOfMergeBegun d) old
-    c.put_mark.new.d (Ok (next, replies.Done))) (sym c.merging.ensures)
-    (does_follow g.D.Disk d staged BeginMerge (IsOfMergeBegun d) old old V
-    (λ t. dead_means d size (g.D.Disk.seen old) V (c.requires.represents t)
-    (dead_of size _ (g.D.Disk.seen old) (λ s. ⊥) (c.requires.represents t).reads
-    (λ s live w. w)))
-    (touches_none g.D.Disk V old) (λ t s b w. absurd w) c.put_mark.new.d
-    (merging_device d) replies.Done 2048
-    (mark_spelling (merging_mark d.mark))
-    (λ t. (step t).effect) (λ t. (step t).represents) c.put_mark.ensures.gate
-    c.put_mark.ensures.touches
+    subst
+    (λ (next : Device).
+    Does g.D.Disk d staged BeginMerge (IsOfMergeBegun d) old c.put_mark.new.d
+    (Ok (next, replies.Done))) (sym c.merging.ensures)
+    (mark_does g.D.Disk d staged BeginMerge (IsOfMergeBegun d) old c.put_mark.new.d
+    (merging_device d) replies.Done (merging_mark d.mark) c.requires.represents
+    (λ t. (step t).effect) (λ t. (step t).represents)
     (λ s b at. record { may = c.requires.may; mark = at })
+    _ refl c.put_mark.ensures.gate c.put_mark.ensures.touches
     (merging_kept d size c.requires.kept c.requires.may)
     (record { geometry = refl; source = λ no. absurd cc })
     c.in-Ok.ensures.written c.in-Ok.ensures.settled c.in-Ok.ensures.faults.steady)

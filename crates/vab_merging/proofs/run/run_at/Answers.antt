@@ -5,7 +5,8 @@ use Rattle.std.proofs.lemmas.Bool.{lt-ltb}
 use Rattle.vab_merge.specs.Merged.{MayMerge, CanMerge}
 use Rattle.vab_device.specs.declared.device.Part.{Part}
 use Rattle.vab_device.specs.Mounted.{blocks_there, count_of}
-use Rattle.vab_merging.specs.Part.{exceptions_in, chunk_in, RunsPart}
+use Rattle.vab_merging.specs.Part.{chunk_in, RunsPart}
+use Rattle.vab_device.specs.Mounted.{exceptions_in}
 use Rattle.vab_merging.specs.Turns.{part_at, has_exceptions, cut_part, with_own}
 use Rattle.vab_merging.proofs.RunLaws.{runs_here, below, some, can, taken_is, counted, failed}
 use Rattle.vab_merging.proofs.run.run_at.Goals as goal

@@ -12,7 +12,7 @@ use Rattle.vab_overlaying.specs.Prepared.{AreWhole}
 use Rattle.vab_overlaying.proofs.BeginLaws.{prepared_over}
 use Rattle.vab_overlaying.proofs.OverlayLaws.{StoresTable, refused_by, fails_table, mid_kept}
 use Rattle.vab_overlaying.proofs.OverlayLaws.{mid_represents, mid_begins, does_overlay}
-use Rattle.vab_overlaying.proofs.TableLaws.{copies_on_disk}
+use Rattle.vab_device.proofs.PlaceLaws.{copies_on_disk}
 use Rattle.vab_overlaying.proofs.beginning.overlay.Goals as goal
 
 pub store_table-requires-clause-on_disk : goal.store_table-requires-clause-on_disk

@@ -1,7 +1,8 @@
 use Rattle.std.proofs.Common.{ℕ, List, sym, ap, subst}
 use Rattle.vab_exceptions.specs.declared.area.Exception.{Exception}
 use Rattle.vab_device.specs.Mounted.{blocks_there}
-use Rattle.vab_overlaying.specs.Over.{exceptions_in, PutsOver}
+use Rattle.vab_overlaying.specs.Over.{PutsOver}
+use Rattle.vab_device.specs.Mounted.{exceptions_in}
 use Rattle.vab_overlaying.proofs.writing.put_over.Goals as goal
 
 pub returns-clause-puts : goal.returns-clause-puts

@@ -14,7 +14,8 @@ use Rattle.vab_device.specs.declared.device.Part.{Part}
 use Rattle.vab_device.specs.declared.device.Device.{Device}
 use Rattle.vab_device.specs.Does.{Does}
 use Rattle.vab_device.specs.Mounted.{blocks_there}
-use Rattle.vab_overlaying.specs.Over.{exceptions_in, with_list, with_over, PutsOver}
+use Rattle.vab_overlaying.specs.Over.{with_list, with_over, PutsOver}
+use Rattle.vab_device.specs.Mounted.{exceptions_in}
 use Rattle.vab_overlaying.specs.Writes.{IsOfOverlaid}
 use Rattle.vab_overlaying.proofs.DoneLaws.{does_over, fails_over, full_over, refused_over}
 use Rattle.vab_overlaying.proofs.NextLaws.{apart}

@@ -28,9 +28,9 @@ returns-in-Ok-clause-opened g c = λ t image same headed.
     let f : Frame = record { heads = c.args.heads; tables = c.in-Ok.tables } in
     let framed = framed_of size f old image same headed (c.in-Ok.ensures.ok t)
     (c.in-Ok.ensures.loaded t) in
-    subst (λ (n : ℕ). IfOk c.finish.result (λ r. IsOpened r.0 r.1 n image))
+    subst (λ (n : ℕ). IfOk c.open_framed.result (λ r. IsOpened r.0 r.1 n image))
     c.read_tables.ensures.reads.quiet.size
-    (c.finish.ensures.opened t image (subst (λ (i : Image). SameSuper i image) (sym seen) same)
+    (c.open_framed.ensures.opened t image (subst (λ (i : Image). SameSuper i image) (sym seen) same)
     (subst (λ (n : ℕ). IsFramed n image f) (sym c.read_tables.ensures.reads.quiet.size) framed))
 
 pub returns-in-Ok-clause-fault : goal.returns-in-Ok-clause-fault
@@ -42,7 +42,7 @@ returns-in-Ok-clause-fault g c = λ t image same headed.
     let framed = framed_of size f old image same headed (c.in-Ok.ensures.ok t)
     (c.in-Ok.ensures.loaded t) in
     subst
-    (λ (n : ℕ). IfErr c.finish.result (λ f. IsOfContents f → device n image ≡ Err f))
+    (λ (n : ℕ). IfErr c.open_framed.result (λ f. IsOfContents f → device n image ≡ Err f))
     c.read_tables.ensures.reads.quiet.size
-    (c.finish.ensures.fault t image (subst (λ (i : Image). SameSuper i image) (sym seen) same)
+    (c.open_framed.ensures.fault t image (subst (λ (i : Image). SameSuper i image) (sym seen) same)
     (subst (λ (n : ℕ). IsFramed n image f) (sym c.read_tables.ensures.reads.quiet.size) framed))

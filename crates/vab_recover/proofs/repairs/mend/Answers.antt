@@ -52,7 +52,7 @@ returns-in-Ok-clause-stays g c =
     let dev = with_tables c.args.tables kept in
     let old = c.args.d.now in
     let mid = c.mend_copies.new.d in
-    let new = c.carry_out.new.d in
+    let new = c.tidy_if_due.new.d in
     let all = c.mend_copies.ensures in
     let is = c.in-Ok.ensures in
     let first : Stays g.D.Disk (IsOfMending size seen) dev old mid (Ok dev) = record {
@@ -71,13 +71,13 @@ returns-in-Ok-clause-stays g c =
       faults = record { steady = is.faults.steady; cause = tt };
     } in
     let later : Stays g.D.Disk (IsOfTidyings dev x) (device_after x dev) mid new
-    c.carry_out.result =
+    c.tidy_if_due.result =
     subst
     (λ (k : Device).
-    Stays g.D.Disk (IsOfTidyings k x) (device_after x k) mid new c.carry_out.result)
-    c.with_tables.ensures c.carry_out.ensures.stays in
+    Stays g.D.Disk (IsOfTidyings k x) (device_after x k) mid new c.tidy_if_due.result)
+    c.with_tables.ensures c.tidy_if_due.ensures.stays in
     stays_then g.D.Disk (IsOfMending size seen) (IsOfTidyings dev x) (IsOfOpening size seen) dev dev
-    (device_after x dev) old mid new c.carry_out.result first later
+    (device_after x dev) old mid new c.tidy_if_due.result first later
     (λ t s b w. inl w)
     (λ t s b w.
     inr (of_tidyings kept c.args.tables size seen c.requires.is.slot (c.requires.read t) x
@@ -95,8 +95,8 @@ returns-in-Ok-clause-tidied g c = λ t.
     let kept = c.args.kept in
     let x = c.args.tidying in
     let mid = g.D.Disk.seen c.mend_copies.new.d in
-    let new = g.D.Disk.seen c.carry_out.new.d in
-    let r = c.carry_out.result in
+    let new = g.D.Disk.seen c.tidy_if_due.new.d in
+    let r = c.tidy_if_due.result in
     on_ok (IfSome x (λ k. mark_of (new 2048) ≡ Ok (rephased marks.Idle kept.mark)))
     (IsTidied (device_after x (with_tables c.args.tables kept)) seen new) r
     (λ mark.
@@ -104,16 +104,16 @@ returns-in-Ok-clause-tidied g c = λ t.
     (c.requires.due t) c.requires.tidying
     (c.in-Ok.ensures.mark t)
     mark
-    (λ none. ap g.D.Disk.seen (c.carry_out.ensures.still none)))
+    (λ none. ap g.D.Disk.seen (c.tidy_if_due.ensures.still none)))
     (subst
     (λ (k : Device).
     OnOk r (IfSome x (λ y. mark_of (new 2048) ≡ Ok (rephased marks.Idle k.mark))))
-    c.with_tables.ensures (c.carry_out.ensures.mark t))
+    c.with_tables.ensures (c.tidy_if_due.ensures.mark t))
 
 pub returns-in-Ok-clause-healthy : goal.returns-in-Ok-clause-healthy
 returns-in-Ok-clause-healthy g c = λ t hold version none.
     subst (λ x. OnlyReads g.D.Disk c.args.d.now x)
-    (sym (c.carry_out.ensures.still
+    (sym (c.tidy_if_due.ensures.still
     (none_due c.args.kept.mark c.args.tidying (g.D.Disk.seen c.args.d.now) (c.requires.due t)
     none)))
     (c.in-Ok.ensures.healthy t hold version)

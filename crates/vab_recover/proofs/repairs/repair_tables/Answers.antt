@@ -9,7 +9,7 @@ use Rattle.vab_device.specs.Reading.{device, RepresentsUnder, version_at}
 use Rattle.vab_recover.specs.Opened.{with_tables}
 use Rattle.vab_tidy.specs.Stays.{LeavesSame}
 use Rattle.vab_recover.specs.Repairs.{IsRepair}
-use Rattle.vab_tidy.proofs.PlaceLaws.{copies_on_disk}
+use Rattle.vab_device.proofs.PlaceLaws.{copies_on_disk}
 use Rattle.vab_recover.proofs.OpenLaws.{source_repair, source_flags, source_leaves, target_repair}
 use Rattle.vab_recover.proofs.OpenLaws.{target_flags, mid_means, mid_represents, mid_loaded}
 use Rattle.vab_recover.proofs.OpenLaws.{target_leaves, new_means, new_represents, on_ok, sectors_in}

@@ -1,7 +1,7 @@
 use Rattle.std.proofs.Common.{◌≡◌, ℕ, sym, ◌∙◌, ap, true, false}
 use Rattle.vab_layout.specs.Layout.{layout_of}
 use Rattle.vab_device.specs.Kept.{lies_in}
-use Rattle.vab_tidy.proofs.PlaceLaws.{table_is}
+use Rattle.vab_device.proofs.PlaceLaws.{table_is}
 use Rattle.vab_recover.proofs.ReadLaws.{table_lies_not}
 use Rattle.vab_recover.proofs.table.read_table.Goals as goal
 

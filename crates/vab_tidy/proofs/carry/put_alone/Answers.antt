@@ -20,9 +20,10 @@ use Rattle.vab_tidy.specs.Planned.{IsAloneFor}
 use Rattle.vab_tidy.specs.Stays.{LeavesSame, Stays, IsInOrder}
 use Rattle.vab_tidy.specs.Tidied.{HasCompleted}
 use Rattle.vab_tidy.proofs.MarkLaws.{completed_stays}
-use Rattle.vab_tidy.proofs.KeptLaws.{kept_table, alone_of, table_kept}
-use Rattle.vab_tidy.proofs.PlaceLaws.{copies_on_disk}
-use Rattle.vab_tidy.proofs.StandsLaws.{StandsIdle, stands_idle}
+use Rattle.vab_device.proofs.SlotTable.{kept_table}
+use Rattle.vab_tidy.proofs.KeptLaws.{alone_of, table_kept}
+use Rattle.vab_device.proofs.PlaceLaws.{copies_on_disk}
+use Rattle.vab_device.proofs.StandsLaws.{StandsIdle, stands_idle}
 use Rattle.vab_tidy.proofs.TableLaws.{means_alone, represents_alone, leaves_alone}
 use Rattle.vab_tidy.proofs.carry.put_alone.Goals as goal
 

@@ -19,9 +19,9 @@ use Rattle.vab_device.specs.Kept.{IsDevice, table_of_slot}
 use Rattle.vab_device.specs.Reading.{device, Represents, mark_in, version_at}
 use Rattle.vab_tidy.specs.Stays.{LeavesSame, IsInOrder, HoldsTable}
 use Rattle.vab_tidy.specs.Tidied.{HasCompleted}
-use Rattle.vab_tidy.proofs.KeptLaws.{has_table}
+use Rattle.vab_device.proofs.SlotTable.{has_table}
 use Rattle.vab_tidy.proofs.MarkLaws.{idle_there, marked_means, marked_represents}
-use Rattle.vab_tidy.proofs.StandsLaws.{StandsIdle, stands_idle}
+use Rattle.vab_device.proofs.StandsLaws.{StandsIdle, stands_idle}
 use Rattle.vab_tidy.proofs.carry.put_idle.Goals as goal
 
 module _ {D : Type 0} (g : Ghosts D) (d : Device) (bytes : List ℕ) (old new : D)

@@ -19,12 +19,12 @@ returns-in_err-next g c =
     rw (p.1, p.2)
     (subst
     (λ (l : List Order).
-    CarriesOrders g.D.Disk c.args.device l c.args.d.now c.carry_out.new.d
+    CarriesOrders g.D.Disk c.args.device l c.args.d.now c.follow_order.new.d
     (Err c.in_err-next.field-0.0))
     (orders_both c.args.device.control.current c.args.set.now 0)
     (orders_short g.D.Disk c.args.device (order Begin ∷ [])
     (orders_behind c.args.device.control.current c.args.set.now 0)
-    c.args.d.now c.carry_out.new.d c.in_err-next.field-0.0
+    c.args.d.now c.follow_order.new.d c.in_err-next.field-0.0
     (c.in_err-next.ensures (order Begin) refl refl)))
 
 pub loop-image-preserved : goal.loop-image-preserved
@@ -91,7 +91,7 @@ returns-in_err-next-3 g c =
     let source : ℕ = c.current-source.result in
     let i : ℕ = c.loop-image.image-index in
     let old = c.args.d.now in
-    let new = c.carry_out-2.new.d in
+    let new = c.follow_order-2.new.d in
     let stop = c.in_err-next-3.field-0.0 in
     let above : length set ≤ i =
     omega (arith, ap length c.as_slice-image-items.ensures, c.loop-image-test.false) in
@@ -110,15 +110,15 @@ returns-in_err-next-3 g c =
     (orders_short g.D.Disk c.loop-image.next (order Finish ∷ []) (last ∷ [])
     c.loop-image.d new stop (c.in_err-next-3.ensures (order Finish) refl refl))))
 
-pub carry_out-requires-3-clause-kept : goal.carry_out-requires-3-clause-kept
-carry_out-requires-3-clause-kept g c =
+pub follow_order-requires-3-clause-kept : goal.follow_order-requires-3-clause-kept
+follow_order-requires-3-clause-kept g c =
     kept_next g.D.Disk c.loop-image.next c.in_ok-next-3.next (order Finish ∷ [])
-    c.loop-image.d c.carry_out-2.new.d (c.in_ok-next-3.ensures (order Finish) refl refl)
+    c.loop-image.d c.follow_order-2.new.d (c.in_ok-next-3.ensures (order Finish) refl refl)
 
-pub carry_out-requires-3-clause-represents : goal.carry_out-requires-3-clause-represents
-carry_out-requires-3-clause-represents g c =
+pub follow_order-requires-3-clause-represents : goal.follow_order-requires-3-clause-represents
+follow_order-requires-3-clause-represents g c =
     represents_next g.D.Disk c.loop-image.next c.in_ok-next-3.next (order Finish ∷ [])
-    c.loop-image.d c.carry_out-2.new.d (c.in_ok-next-3.ensures (order Finish) refl refl)
+    c.loop-image.d c.follow_order-2.new.d (c.in_ok-next-3.ensures (order Finish) refl refl)
 
 pub returns : goal.returns
 returns g c =
@@ -126,8 +126,8 @@ returns g c =
     let source : ℕ = c.current-source.result in
     let i : ℕ = c.loop-image.image-index in
     let old = c.args.d.now in
-    let new = c.carry_out-3.new.d in
-    let r = c.carry_out-3.result in
+    let new = c.follow_order-3.new.d in
+    let r = c.follow_order-3.result in
     let above : length set ≤ i =
     omega (arith, ap length c.as_slice-image-items.ensures, c.loop-image-test.false) in
     let all = order Begin ∷ flat_map (image_orders source) set in
@@ -143,9 +143,9 @@ returns g c =
     CarriesOrders g.D.Disk c.args.device l old c.loop-image.d (Ok c.loop-image.next))
     (orders_all source set i above) c.loop-image.invariant)
     (orders_more g.D.Disk c.loop-image.next c.in_ok-next-3.next (order Finish ∷ []) (last ∷ [])
-    c.loop-image.d c.carry_out-2.new.d new r
+    c.loop-image.d c.follow_order-2.new.d new r
     (represents_next g.D.Disk c.args.device c.loop-image.next
     (order Begin ∷ flat_map (image_orders source) (take i set)) old c.loop-image.d
     c.loop-image.invariant)
     finished
-    (c.carry_out-3.ensures last refl refl)))
+    (c.follow_order-3.ensures last refl refl)))

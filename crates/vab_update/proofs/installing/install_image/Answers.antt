@@ -23,20 +23,20 @@ returns-in_err-next g c =
     rw (p.1, p.2)
     (orders_short g.D.Disk c.args.device (first ∷ [])
     (order (Snapshot (target_name source image) image.store) ∷ flash_order source image ∷ [])
-    old c.carry_out.new.d c.in_err-next.field-0.0
+    old c.follow_order.new.d c.in_err-next.field-0.0
     (c.in_err-next.ensures first (c.size_command-sized.ensures.is (g.D.Disk.seen old)) refl))
 
-pub carry_out-requires-2-clause-kept : goal.carry_out-requires-2-clause-kept
-carry_out-requires-2-clause-kept g c =
+pub follow_order-requires-2-clause-kept : goal.follow_order-requires-2-clause-kept
+follow_order-requires-2-clause-kept g c =
     let sized : Command = command_of c.size_command-sized.result in
     kept_next g.D.Disk c.args.device c.in_ok-next.next (order sized ∷ [])
-    c.args.d.now c.carry_out.new.d (c.in_ok-next.ensures (order sized) refl refl)
+    c.args.d.now c.follow_order.new.d (c.in_ok-next.ensures (order sized) refl refl)
 
-pub carry_out-requires-2-clause-represents : goal.carry_out-requires-2-clause-represents
-carry_out-requires-2-clause-represents g c =
+pub follow_order-requires-2-clause-represents : goal.follow_order-requires-2-clause-represents
+follow_order-requires-2-clause-represents g c =
     let sized : Command = command_of c.size_command-sized.result in
     represents_next g.D.Disk c.args.device c.in_ok-next.next (order sized ∷ [])
-    c.args.d.now c.carry_out.new.d (c.in_ok-next.ensures (order sized) refl refl)
+    c.args.d.now c.follow_order.new.d (c.in_ok-next.ensures (order sized) refl refl)
 
 pub returns-in_err-next-2 : goal.returns-in_err-next-2
 returns-in_err-next-2 g c =
@@ -52,25 +52,25 @@ returns-in_err-next-2 g c =
     let third : Order = flash_order source image in
     rw (p.1, p.2)
     (orders_more g.D.Disk c.args.device c.in_ok-next.next (first ∷ []) (second ∷ third ∷ [])
-    old c.carry_out.new.d c.carry_out-2.new.d (Err c.in_err-next-2.field-0.0)
+    old c.follow_order.new.d c.follow_order-2.new.d (Err c.in_err-next-2.field-0.0)
     c.requires.represents
     (c.in_ok-next.ensures first (c.size_command-sized.ensures.is (g.D.Disk.seen old)) refl)
     (orders_short g.D.Disk c.in_ok-next.next (second ∷ []) (third ∷ [])
-    c.carry_out.new.d c.carry_out-2.new.d c.in_err-next-2.field-0.0
+    c.follow_order.new.d c.follow_order-2.new.d c.in_err-next-2.field-0.0
     (c.in_err-next-2.ensures second
     (ap (λ (n : List ℕ). Snapshot n image.store) (sym named)) refl)))
 
-pub carry_out-requires-3-clause-kept : goal.carry_out-requires-3-clause-kept
-carry_out-requires-3-clause-kept g c =
+pub follow_order-requires-3-clause-kept : goal.follow_order-requires-3-clause-kept
+follow_order-requires-3-clause-kept g c =
     let snapshot : Command = Snapshot c.text-name.result.now c.args.image.now.store in
     kept_next g.D.Disk c.in_ok-next.next c.in_ok-next-2.next (order snapshot ∷ [])
-    c.carry_out.new.d c.carry_out-2.new.d (c.in_ok-next-2.ensures (order snapshot) refl refl)
+    c.follow_order.new.d c.follow_order-2.new.d (c.in_ok-next-2.ensures (order snapshot) refl refl)
 
-pub carry_out-requires-3-clause-represents : goal.carry_out-requires-3-clause-represents
-carry_out-requires-3-clause-represents g c =
+pub follow_order-requires-3-clause-represents : goal.follow_order-requires-3-clause-represents
+follow_order-requires-3-clause-represents g c =
     let snapshot : Command = Snapshot c.text-name.result.now c.args.image.now.store in
     represents_next g.D.Disk c.in_ok-next.next c.in_ok-next-2.next (order snapshot ∷ [])
-    c.carry_out.new.d c.carry_out-2.new.d (c.in_ok-next-2.ensures (order snapshot) refl refl)
+    c.follow_order.new.d c.follow_order-2.new.d (c.in_ok-next-2.ensures (order snapshot) refl refl)
 
 pub returns : goal.returns
 returns g c =
@@ -84,14 +84,14 @@ returns g c =
     let second : Order = order (Snapshot (target_name source image) image.store) in
     let third : Order = flash_order source image in
     orders_more g.D.Disk c.args.device c.in_ok-next.next (first ∷ []) (second ∷ third ∷ [])
-    old c.carry_out.new.d c.carry_out-3.new.d c.carry_out-3.result
+    old c.follow_order.new.d c.follow_order-3.new.d c.follow_order-3.result
     c.requires.represents
     (c.in_ok-next.ensures first (c.size_command-sized.ensures.is (g.D.Disk.seen old)) refl)
     (orders_more g.D.Disk c.in_ok-next.next c.in_ok-next-2.next (second ∷ []) (third ∷ [])
-    c.carry_out.new.d c.carry_out-2.new.d c.carry_out-3.new.d c.carry_out-3.result
+    c.follow_order.new.d c.follow_order-2.new.d c.follow_order-3.new.d c.follow_order-3.result
     (represents_next g.D.Disk c.args.device c.in_ok-next.next (order sized ∷ [])
-    old c.carry_out.new.d (c.in_ok-next.ensures (order sized) refl refl))
+    old c.follow_order.new.d (c.in_ok-next.ensures (order sized) refl refl))
     (c.in_ok-next-2.ensures second
     (ap (λ (n : List ℕ). Snapshot n image.store) (sym named)) refl)
-    (c.carry_out-3.ensures third (ap (λ (n : List ℕ). Flash n One) (sym named))
+    (c.follow_order-3.ensures third (ap (λ (n : List ℕ). Flash n One) (sym named))
     (ap Some (sym c.as_slice-bytes.ensures))))

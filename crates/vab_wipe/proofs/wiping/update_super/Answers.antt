@@ -7,7 +7,7 @@ use Rattle.vab_model.specs.declared.command.Reply.TheVariants as replies
 use Rattle.vab_model.specs.Commands.{UpdateSuper}
 use Rattle.vab_device.specs.declared.device.Device.{Device}
 use Rattle.vab_device.specs.Does.{Does}
-use Rattle.vab_tidy.proofs.PlaceLaws.{copies_on_disk}
+use Rattle.vab_device.proofs.PlaceLaws.{copies_on_disk}
 use Rattle.vab_wipe.specs.Writes.{IsOfWipe}
 use Rattle.vab_wipe.proofs.CommandLaws.{StoresTable, refused_by, fails_wipe, does_wipe}
 use Rattle.vab_wipe.proofs.wiping.update_super.Goals as goal

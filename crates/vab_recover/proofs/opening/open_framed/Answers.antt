@@ -9,7 +9,7 @@ use Rattle.vab_recover.proofs.FrameLaws.{frame_judged, frame_scanned, frame_stat
 use Rattle.vab_recover.proofs.FrameLaws.{kept_is, opened_of, slots_are}
 use Rattle.vab_recover.proofs.FinishLaws.{source_on_disk, through_are, through_on_disk}
 use Rattle.vab_recover.proofs.FinishLaws.{assembled_kept}
-use Rattle.vab_recover.proofs.opening.finish.Goals as goal
+use Rattle.vab_recover.proofs.opening.open_framed.Goals as goal
 
 -- the rules are judged by the number that the version of the mark says
 by_version : (n : ℕ) (f : Frame) (x : Option StartFault)

@@ -1,10 +1,8 @@
--- A device without an update and an overlay, as it is read of its disk; and tables of a slot that
--- are the same without stores.
+-- A device without an update and an overlay, as it is read of its disk.
 use Rattle.std.proofs.Common.{◌≡◌, ◌∙◌, ℕ, zero, suc, ◌<◌, List, [], ◌∷◌, Result, Ok, refl, sym, ap}
 use Rattle.std.proofs.Common.{subst, arith, false}
-use Rattle.std.specs.Prelude.{Option, Some, ◌==◌, map}
+use Rattle.std.specs.Prelude.{Option, Some, ◌==◌}
 use Rattle.vab_disk.specs.Disk.{Image}
-use Rattle.vab_names.specs.Names.{base_of}
 use Rattle.vab_bootctl.specs.declared.slots.Control.{Control}
 use Rattle.vab_bootctl.specs.Control.{control_of}
 use Rattle.vab_marks.specs.declared.mark.MarkPhase.{MarkPhase}
@@ -12,21 +10,12 @@ use Rattle.vab_marks.specs.declared.mark.MarkPhase.TheVariants as marks
 use Rattle.vab_marks.specs.declared.mark.UpdateMark.{UpdateMark}
 use Rattle.vab_marks.specs.declared.status.PartStatus.{PartStatus}
 use Rattle.vab_marks.specs.declared.version.MarkVersion.TheVariants.{Two}
-use Rattle.vab_marks.specs.Mark.{rephased, resloted}
 use Rattle.vab_statuses.specs.Statuses.{written_in}
 use Rattle.vab_geometry.specs.declared.geometry.Geometry.{Geometry}
-use Rattle.vab_tables.specs.declared.entries.Group.{Group}
 use Rattle.vab_tables.specs.declared.table.Table.{Table}
-use Rattle.vab_tables.specs.Rules.{cap_of}
-use Rattle.vab_layout.specs.declared.layout.Layout.{Layout}
-use Rattle.vab_layout.specs.Layout.{layout_of}
-use Rattle.vab_layout.specs.Slots.{own_parts}
-use Rattle.vab_layout.specs.Plain.{plain, default_group, own_groups}
-use Rattle.vab_builder.proofs.ImportLaws.{plain_parts}
-use Rattle.vab_builder.proofs.TableLaws.{layout_groups, plain_device}
 use Rattle.vab_device.specs.declared.device.Device.{Device}
 use Rattle.vab_device.specs.Idle.{idle_read, control_read_of}
-use Rattle.vab_device.specs.Kept.{table_of_slot, part_on, parts_of, limits_of}
+use Rattle.vab_device.specs.Kept.{table_of_slot}
 use Rattle.vab_device.specs.Phases.{phase_in, phase_at}
 use Rattle.vab_device.specs.Reading.{Read, Reads, Represents, AgreeCopies, version_at, statuses_at}
 use Rattle.vab_device.specs.Reading.{control_in}
@@ -34,15 +23,14 @@ use Rattle.vab_device.specs.Stores.{scans_in}
 use Rattle.vab_device.proofs.MarkLaws.{as_idle}
 use Rattle.vab_device.proofs.ReadingLaws.{one_table, control_is_seen, flags_known}
 use Rattle.vab_device.proofs.UpdateLaws.{kept_with}
+use Rattle.vab_marks.specs.Mark.{rephased, resloted}
 
--- ---- how it is read
-
--- the reading of a device without an update and an overlay
+-- the reading of such a device
 abbrev pub read_at : UpdateMark → Control → Geometry → Table → Read
 read_at m c g t = idle_read (rephased marks.Idle m) c g t
 
 -- The disk is read so, and is the kept device, whose slot has this table.
-pub record StandsPlain (d : Device) (size : ℕ) (image : Image) (t : Table) : Type 0 where
+pub record StandsIdle (d : Device) (size : ℕ) (image : Image) (t : Table) : Type 0 where
   pub reads : Reads size (read_at d.mark d.control d.geometry t) image
   pub is : d ≡ kept_with (read_at d.mark d.control d.geometry t) d.control
   pub control : control_of (image 4) ≡ Ok d.control
@@ -69,7 +57,7 @@ module _
     (d : Device) (size : ℕ) (image : Image) (t : Table)
     (below : d.mark.slot < 2)
     (idle : d.mark.phase ≡ marks.Idle)
-    (bare : d.mark.overlaid ≡ false)
+    (plain : d.mark.overlaid ≡ false)
     (has : table_of_slot d d.mark.slot ≡ Some t)
     (is : Represents d size image) where
   abbrev r : Read
@@ -87,10 +75,11 @@ module _
   phase : r.mark.phase ≡ marks.Idle
   phase = sym (ap (λ (k : Device). k.mark.phase) is.is) ∙ idle
 
+  plainly : r.mark.overlaid ≡ false
+  plainly = sym (ap (λ (k : Device). k.mark.overlaid) is.is) ∙ plain
+
   phased : r.mark ≡ rephased marks.Idle r.mark
-  phased =
-      as_idle r.mark (flags_known image r.mark is.reads.mark)
-      (sym (ap (λ (k : Device). k.mark.overlaid) is.is) ∙ bare) phase
+  phased = as_idle r.mark (flags_known image r.mark is.reads.mark) plainly phase
 
   one : (u : Table) × (r.tables ≡ u ∷ [])
   one = one_table size r image phase is.reads
@@ -157,8 +146,8 @@ module _
   whole : r ≡ read_at d.mark d.control d.geometry t
   whole = shape ∙ (λ i. read_at (sym marked i) d.control (sym geometry i) (same i))
 
-  pub stands_plain : StandsPlain d size image t
-  stands_plain = record {
+  pub stands_idle : StandsIdle d size image t
+  stands_idle = record {
     reads = subst (λ (x : Read). Reads size x image) whole is.reads;
     is = is.is ∙ ap (λ (x : Read). kept_with x d.control) whole;
     control = is.control;
@@ -169,44 +158,3 @@ module _
         whole is.copies;
     version = is.version;
   }
-
--- ---- tables that are the same without stores
-
-plain_groups : (slot : ℕ) (l : Layout)
-    → (plain slot l).groups ≡ default_group ∷ own_groups slot l.groups
-unfolding plain
-plain_groups slot l = refl
-
-module _ (slot : ℕ) (t u : Table) (is : plain slot (layout_of u) ≡ plain slot (layout_of t)) where
-  pub device_is : (layout_of u).device ≡ (layout_of t).device
-  device_is =
-      sym (plain_device slot (layout_of u))
-      ∙ ap (λ (l : Layout). l.device) is
-      ∙ plain_device slot (layout_of t)
-
-  pub own_is : own_parts slot (layout_of u).parts ≡ own_parts slot (layout_of t).parts
-  own_is =
-      sym (plain_parts slot (layout_of u))
-      ∙ ap (λ (l : Layout). l.parts) is
-      ∙ plain_parts slot (layout_of t)
-
-  pub parts_are : parts_of slot (layout_of u) ≡ parts_of slot (layout_of t)
-  parts_are = (λ i. map (part_on (device_is i).first_logical_sector) (own_is i))
-
-  pub cap_is : cap_of (layout_of u).device ≡ cap_of (layout_of t).device
-  cap_is = ap cap_of device_is
-
-  groups_are : own_groups slot u.groups ≡ own_groups slot t.groups
-  groups_are =
-      let both : default_group ∷ own_groups slot u.groups
-      ≡ default_group ∷ own_groups slot t.groups =
-      ap (λ (gs : List Group). default_group ∷ own_groups slot gs) (sym (layout_groups u))
-      ∙ sym (plain_groups slot (layout_of u))
-      ∙ ap (λ (l : Layout). l.groups) is
-      ∙ plain_groups slot (layout_of t)
-      ∙ ap (λ (gs : List Group). default_group ∷ own_groups slot gs) (layout_groups t) in
-      cc
-
-  pub limits_are : limits_of slot u.groups ≡ limits_of slot t.groups
-  limits_are =
-      (λ i. map (λ g. record { name = base_of g.name; limit = g.maximum_size }) (groups_are i))

@@ -15,7 +15,7 @@ use Rattle.vab_cli.specs.Causes.{IsRefusedOn}
 use Rattle.vab_cli.proofs.Causing.{device_opened, ended_opened, ended_refused, opening_kind}
 use Rattle.vab_cli.proofs.Causing.{unopened_unrefused}
 use Rattle.vab_cli.proofs.CopiesLeft.{early_unanswered, performed_copies}
-use Rattle.vab_cli.proofs.commands.carry_out.Goals as goal
+use Rattle.vab_cli.proofs.commands.run_command.Goals as goal
 
 pub returns-clause-runs : goal.returns-clause-runs
 returns-clause-runs g c = λ t s stands.

@@ -19,7 +19,7 @@ use Rattle.vab_session.proofs.Changing.{changes_told, follows_done}
 use Rattle.vab_session.proofs.Data.{command_before, command_done, command_told}
 use Rattle.vab_commands.proofs.CopiesLaws.{both_copies, copies_stay}
 use Rattle.vab_session.proofs.WrittenLaws.{command_writes, writes_told}
-use Rattle.vab_session.proofs.answer.carry_out.Goals as goal
+use Rattle.vab_session.proofs.answer.do_command.Goals as goal
 
 pub returns-in-Err-clause-does : goal.returns-in-Err-clause-does
 returns-in-Err-clause-does g c = λ t packet before beyond count total most asked is none same.

@@ -21,22 +21,12 @@ use Rattle.vab_device.specs.Kept.{IsDevice}
 use Rattle.vab_device.specs.Mounted.{Mounted, mounted_on}
 use Rattle.vab_device.specs.Reading.{device, Represents}
 use Rattle.vab_device.specs.Updates.{effect_on}
+use Rattle.vab_device.proofs.DoesLaws.{fails_over, if_ok_map, steady_then}
 
 -- with nothing more told, the disk is this device
 pub record LeavesMounted (told : List ℕ) (size : ℕ) (m : Mounted) (o : Outcome) : Type 0 where
   pub told_so_far : o.told ≡ told
   pub means : device size o.image ≡ Ok m
-
-steady_on : {A E X : Type 0} (r : Result A E) (a b c : X) → b ≡ a → OnOk r (c ≡ b) → OnOk r (c ≡ a)
-steady_on (Ok x) a b c ab bc = bc ∙ ab
-steady_on (Err e) a b c ab bc = tt
-
-if_ok_map : {A E : Type 0} (r : Result A E) (P Q : A → Type 0)
-    → ((x : A) → P x → Q x)
-    → IfOk r P
-    → IfOk r Q
-if_ok_map (Ok x) P Q f is = f x is
-if_ok_map (Err e) P Q f is = tt
 
 -- where it is done, memory wasn't refused
 not_refused : {X : Type 0} (r : Result (X × Reply) DiskFault) (b : Bool) (e : Effect Mounted)
@@ -95,20 +85,10 @@ module _ {D : Type 0} (g : Ghosts D)
   pub fails_behind : (fault : DiskFault)
       → DiskFailed (g.faults old) (g.faults mid)
       → Does g d staged command U old mid (Err fault)
-  fails_behind fault failed = record {
-    refused = false;
-    kept = tt;
-    follows = tt;
-    represents = λ t. tt;
-    after = λ t. tt;
-    reply = λ t. tt;
-    rest = λ t rest. tt;
-    quiet = writes.quiet;
-    still = λ t none. absurd (follows t none);
-    touches = λ t. touches_wider g U V old mid writes (of_v t);
-    time = time_first (effect_on (mounted_on d (g.seen old)) staged command);
-    faults = record { steady = tt; cause = failed };
-  }
+  fails_behind fault failed =
+      fails_over g d staged command U old mid writes.quiet follows
+      (λ t. touches_wider g U V old mid writes (of_v t))
+      (time_first (effect_on (mounted_on d (g.seen old)) staged command)) fault failed
 
   module _ (mid_is : Device)
       (same : g.is_modelled → mounted_on mid_is (g.seen mid) ≡ mounted_on d (g.seen old))
@@ -204,7 +184,7 @@ module _ {D : Type 0} (g : Ghosts D)
               });
           faults = record {
             steady =
-                steady_on r (g.faults old) (g.faults mid) (g.faults new) counts
+                steady_then r (g.faults old) (g.faults mid) (g.faults new) counts
                 later.faults.steady;
             cause = cause_on r later.faults.cause;
           };

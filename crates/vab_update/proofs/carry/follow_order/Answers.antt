@@ -4,7 +4,7 @@ use Rattle.vab_update.specs.declared.stop.Stop.TheVariants as stops
 use Rattle.vab_update.proofs.CarriesLaws.{carries_single, carries_failed, carries_done}
 use Rattle.vab_update.proofs.CarriesLaws.{carries_refused}
 use Rattle.vab_update.proofs.WrittenLaws.{order_done, order_failed, order_refused}
-use Rattle.vab_update.proofs.carry.carry_out.Goals as goal
+use Rattle.vab_update.proofs.carry.follow_order.Goals as goal
 
 pub returns-in-Err : goal.returns-in-Err
 returns-in-Err g c = λ order same bytes.

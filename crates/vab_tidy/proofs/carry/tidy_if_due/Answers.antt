@@ -4,7 +4,7 @@ use Rattle.vab_tidy.specs.declared.prepared.Tidying.{Tidying}
 use Rattle.vab_tidy.specs.Kept.{device_after}
 use Rattle.vab_tidy.specs.Stays.{Stays}
 use Rattle.vab_tidy.specs.Writes.{IsOfTidyings}
-use Rattle.vab_tidy.proofs.carry.carry_out.Goals as goal
+use Rattle.vab_tidy.proofs.carry.tidy_if_due.Goals as goal
 
 pub returns-in-Some-clause-stays : goal.returns-in-Some-clause-stays
 returns-in-Some-clause-stays g c =
