@@ -5,4 +5,5 @@ mod Installing
 mod Keeping
 mod Overlaying
 mod Planned
+mod Reading
 mod Wiping

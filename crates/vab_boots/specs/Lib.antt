@@ -3,4 +3,5 @@ pub mod Boots
 pub mod Images
 pub mod Installed
 pub mod Overlaid
+pub mod Read
 pub mod Wiped

@@ -1,6 +1,7 @@
 //! What an overlay leaves of a device.
 ghost use Rattle.vab_boots.specs.Overlaid.{StepsLeaveTheRest, OverlaysLeaveTheRest};
 ghost use Rattle.vab_boots.specs.Overlaid.{DiscardGivesBack};
+ghost use Rattle.vab_boots.specs.Read.{WritesAreRead};
 
 /// The commands of an overlay change nothing of a device but the overlay: at each step of one, and
 /// behind any list of them, with any staged bytes, the images of both slots, the groups, boot
@@ -10,4 +11,11 @@ pub fn overlay_leaves_the_device()
     ensures steps { StepsLeaveTheRest }
     ensures lists { OverlaysLeaveTheRest }
     ensures discard { DiscardGivesBack }
+{}
+
+/// Behind the begin of an overlay that is done, and any writes, each with any staged bytes and done
+/// or refused, each block of the partition reads as the last write to it that was done, and else as
+/// the image that the begin has found.
+pub fn writes_are_read()
+    ensures { WritesAreRead }
 {}
