@@ -1,5 +1,6 @@
--- The update that adopting drops.
-use Rattle.std.specs.Prelude.{Bool, true, false, if◌then◌else◌, Option, Some, None, Result, Ok, Err}
+-- The update, or the overlay, that adopting drops.
+use Rattle.std.specs.Prelude.{Bool, true, false, ◌||◌, if◌then◌else◌, Option, Some, None}
+use Rattle.std.specs.Prelude.{Result, Ok, Err}
 use Rattle.vab_disk.specs.Disk.{Image}
 use Rattle.vab_marks.specs.declared.mark.MarkPhase.{MarkPhase}
 use Rattle.vab_marks.specs.declared.mark.MarkPhase.TheVariants.{Idle, Installing, Staged, Merging}
@@ -16,9 +17,13 @@ is_update Staged = true
 is_update Merging = true
 is_update Completed = false
 
--- the mark that was read, where there is an update
+-- there is an update, or a partition of the slot is written over
+abbrev pub is_dropped : UpdateMark → Bool
+is_dropped mark = is_update mark.phase || mark.overlaid
+
+-- the mark that was read, where something is dropped
 abbrev pub update_of : Result UpdateMark MarkFault → Option UpdateMark
-update_of (Ok mark) = if is_update mark.phase then Some mark else None
+update_of (Ok mark) = if is_dropped mark then Some mark else None
 update_of (Err fault) = None
 
 -- that of a disk: nothing else is asked of the disk

@@ -91,10 +91,10 @@ fn look<D: Disk>(alloc: Global, d: &mut D, slot: usize) -> Result<Adopted, Adopt
 /// table, without an update, with the slot current and good, priority 15. Three sectors are
 /// written, one gate each: zeros for the mark, the boot control, the mark. Nothing of `super` is
 /// written, and the tables' copies are not repaired. The refusals come in the order of
-/// `AdoptFault`, each exactly where it says, and nothing is written then. An update whose mark can
-/// be read is dropped, and its mark answered. A disk that fails, or a cut of power, leaves the disk
-/// as it was, or no device, or the adopted one. Want of memory and a disk that fails may stand in
-/// place of each answer.
+/// `AdoptFault`, each exactly where it says, and nothing is written then. An update or an overlay
+/// whose mark can be read is dropped, and its mark answered. A disk that fails, or a cut of power,
+/// leaves the disk as it was, or no device, or the adopted one. Want of memory and a disk that
+/// fails may stand in place of each answer.
 pub fn adopt_device<D: Disk>(alloc: Global, d: &mut D, slot: usize) -> Result<Adopted, AdoptFault>
     requires slot { slot < 2 }
     ensures exact { D.is_modelled

@@ -16,8 +16,8 @@ pub struct Adopted {
     pub blocks: u64,
     /// The blocks of 4096 bytes that partitions may have.
     pub cap: u64,
-    /// The mark of an update that was there, and is dropped: one that is installed, ready or being
-    /// merged.
+    /// The mark of what was there, and is dropped: an update that is installed, ready or being
+    /// merged, or an overlay.
     pub dropped: Option<UpdateMark>,
 }
 

@@ -1,4 +1,4 @@
-//! An update that is there, and is dropped.
+//! An update or an overlay that is there, and is dropped.
 
 ghost use Rattle.std.specs.Prelude.{◌≡◌, ◌<◌, IfOk};
 ghost use Rattle.vab_disk.specs.Calls.{OnlyReads, FailsWithDisk};
@@ -20,18 +20,18 @@ fn is_update(phase: MarkPhase) -> bool
     }
 }
 
-// The mark in the bytes of a sector, where there is an update.
+// The mark in the bytes of a sector, where there is an update or an overlay.
 fn update_in(sector: &[u8; 512]) -> Option<UpdateMark>
     ensures { result ≡ update_of (mark_of sector.now) }
 {
     match decode_mark(sector) {
-        Ok(mark) if is_update(mark.phase) => Some(mark),
+        Ok(mark) if is_update(mark.phase) || mark.overlaid => Some(mark),
         Ok(_) | Err(_) => None,
     }
 }
 
-/// The mark of an update that is there. It is read, and no more is asked of the disk; where there
-/// are too few sectors for a mark there is none.
+/// The mark of an update or an overlay that is there. It is read, and no more is asked of the disk;
+/// where there are too few sectors for a mark there is none.
 pub(crate) fn update_there<D: Disk>(d: &mut D) -> Result<Option<UpdateMark>, DiskFault>
     ensures is { D.is_modelled
         → 2048 < D.size d.old

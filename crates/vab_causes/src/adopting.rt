@@ -25,12 +25,18 @@ pub(crate) fn write_adopting<W: fmt::Write>(
     }
 }
 
-/// Writes which update was dropped.
+/// Writes which update or overlay was dropped.
 pub(crate) fn write_dropped<W: fmt::Write>(
     f: &mut fmt::Formatter<W>,
     mark: &UpdateMark,
 ) -> fmt::Result {
     let slot = if mark.slot == 0 { "a" } else { "b" };
+    if mark.overlaid {
+        return write!(
+            f,
+            "an overlay is dropped: by its mark a partition of slot {slot} was written over"
+        );
+    }
     write!(
         f,
         "an update is dropped: by its mark it {} slot {slot}",

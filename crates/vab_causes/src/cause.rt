@@ -27,7 +27,7 @@ pub enum Cause {
     Making(MakeFault),
     /// The disk wasn't adopted.
     Adopting(AdoptFault),
-    /// It was adopted, and this update that was there is dropped.
+    /// It was adopted, and this update or overlay that was there is dropped.
     Dropped(UpdateMark),
     /// The input has more bytes than a set may have, 2^32.
     TooLong,

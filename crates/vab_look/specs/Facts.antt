@@ -9,7 +9,7 @@ use Rattle.vab_device.specs.declared.device.PhaseKind.{PhaseKind}
 use Rattle.vab_device.specs.declared.device.PhaseKind.TheVariants.{Idle, Installing, Staged}
 use Rattle.vab_device.specs.declared.device.PhaseKind.TheVariants.{Merging}
 use Rattle.vab_device.specs.Kept.{phase_kind}
-use Rattle.vab_device.specs.Mounted.{count_at}
+use Rattle.vab_device.specs.Mounted.{count_at, count_of, blocks_there}
 use Rattle.vab_fbproto.specs.Texts.{slot_letter}
 use Rattle.vab_status.specs.Page.{yes_or_no}
 use Rattle.vab_status.specs.Kept.{plan_word}
@@ -68,6 +68,21 @@ abbrev pub plan_facts : Form → Option (List Part) → List ℕ
 plan_facts form None = []
 plan_facts form (Some parts) = flat_map (plan_fact form) parts
 
+-- the partition that is written over, with the blocks of its store, and those of its own that were
+-- written
+abbrev pub overlay_fact : Form → Part → List ℕ
+overlay_fact form p =
+    begun form (codes "overlay")
+    ++ word_in form (codes "name") p.name
+    ++ counted_in form (codes "bytes") (4096 * length p.map)
+    ++ counted_in form (codes "store") (length (blocks_there p.store))
+    ++ counted_in form (codes "written") (count_of p.image)
+    ++ ended form
+
+abbrev pub overlay_facts : Form → Option Part → List ℕ
+overlay_facts form None = []
+overlay_facts form (Some p) = overlay_fact form p
+
 -- a slot without images has no line
 abbrev pub status_facts : Form → Device → List ℕ
 status_facts form d =
@@ -75,3 +90,4 @@ status_facts form d =
     ++ slot_facts form 0 d.control.a d.a
     ++ slot_facts form 1 d.control.b d.b
     ++ plan_facts form d.plan
+    ++ overlay_facts form d.overlay

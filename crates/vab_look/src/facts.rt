@@ -17,6 +17,7 @@ use vab_device::{Device, Part, PartImage, PhaseKind};
 use vab_fbproto::slot_letter;
 use vab_merging::left;
 use vab_model::NoMemory;
+use vab_status::{bytes_of, exceptions, store_blocks};
 
 fn phase_word(phase: PhaseKind) -> &'static [u8]
     ensures text { result.now ≡ texts.phase_word phase }
@@ -61,14 +62,6 @@ fn slot_fact(form: Form, slot: usize, images: usize, info: Info) -> Line
     put_word(form, b"successful", word_of(info.successful), &mut line);
     end(form, &mut line);
     line
-}
-
-// How many bytes a partition has.
-fn bytes_of(part: &Part) -> u64
-    requires { length part.now.map ≤ 2 ^ 28 }
-    ensures { result ≡ 4096 * length part.now.map }
-{
-    4096 * part.map.len()
 }
 
 // The fact of an image.
@@ -165,6 +158,33 @@ fn push_plan(form: Form, plan: &Option<Listing<Part>>, page: &mut Vec<u8>) -> Re
     }
 }
 
+// The fact of a partition that is written over.
+#[tactic(auto, using(vab_bytes::proofs::NameLaws::name_fits))]
+fn overlay_fact(form: Form, part: &Part) -> Line
+    requires { length part.now.map ≤ 2 ^ 28 }
+    ensures { result.items ≡ texts.overlay_fact form part.now }
+{
+    let mut line = begin(form, b"overlay");
+    put_word(form, b"name", part.name.text(), &mut line);
+    put_counted(form, b"bytes", bytes_of(part), &mut line);
+    put_counted(form, b"store", store_blocks(part), &mut line);
+    put_counted(form, b"written", exceptions(part), &mut line);
+    end(form, &mut line);
+    line
+}
+
+// The fact of an overlay, where there is one.
+fn push_overlay(form: Form, overlay: &Option<Part>, page: &mut Vec<u8>) -> Result<(), NoMemory>
+    requires { kept.IsSmall overlay.now }
+    ensures { OnOk result
+        (page.new.items ≡ page.old.items ++ texts.overlay_facts form overlay.now) }
+{
+    match overlay {
+        None => Ok(()),
+        Some(part) => push_line(&overlay_fact(form, part), page),
+    }
+}
+
 /// The facts of the page of a device.
 pub(crate) fn status_facts(alloc: Global, form: Form, device: &Device) -> Result<Vec<u8>, NoMemory>
     requires { (size : ℕ) × IsDevice device.now size }
@@ -182,5 +202,6 @@ pub(crate) fn status_facts(alloc: Global, form: Form, device: &Device) -> Result
     push_slot(form, 0, device.control.a, &device.a, &mut page)?;
     push_slot(form, 1, device.control.b, &device.b, &mut page)?;
     push_plan(form, &device.plan, &mut page)?;
+    push_overlay(form, &device.overlay, &mut page)?;
     Ok(page)
 }

@@ -21,8 +21,10 @@ use Rattle.vab_device.specs.declared.device.PartImage.{PartImage}
 use Rattle.vab_device.specs.declared.device.PartImage.TheVariants.{Kept, Declared, Written}
 use Rattle.vab_device.specs.declared.device.Device.{Device}
 use Rattle.vab_device.specs.Kept.{IsPart, ArePresent, IsDevice, is_installing, kind_of, phase_kind}
+use Rattle.vab_device.specs.Kept.{IsOverlay, parts_at}
 use Rattle.vab_device.specs.Mounted.{state_on, images_on, image_on, sectors_read, entry_on}
 use Rattle.vab_device.specs.Mounted.{entries_on, planned_on, phase_by, unplanned, count_at}
+use Rattle.vab_device.specs.Mounted.{count_of, blocks_there, blocks_over, overlay_on}
 use Rattle.vab_manager.proofs.SeenLaws.{read_long, read_on_disk}
 use Rattle.vab_fbproto.specs.Texts.{slot_letter}
 use Rattle.vab_fbvars.specs.Variables.{AreSectors}
@@ -195,6 +197,41 @@ module _ (image : Image) where
   phase_on m left None is = phase_unplanned m.phase m.slot left is
   phase_on m left (Some plan) is = phase_planned m.phase m.slot left is
 
+-- ---- an overlay
+
+-- the blocks that were written are those of the store's exceptions
+written_on : (i : PartImage) → length (blocks_over i) ≡ count_of i
+written_on Kept = refl
+written_on Declared = refl
+written_on (Written k es) = length-map es (λ e. e.old_chunk)
+
+-- its partition is one of the disk's
+overlaid_part : (size : ℕ) (parts : Option (List Part)) (p : Part)
+    → IsOverlay size parts (Some p)
+    → IsPart size p
+overlaid_part size None p is = absurd is
+overlaid_part size (Some parts) p is = is.part
+
+pub small_overlay : (size : ℕ) (parts : Option (List Part)) (o : Option Part)
+    → IsOverlay size parts o
+    → kept.IsSmall o
+small_overlay size parts None is = tt
+small_overlay size parts (Some p) is = (overlaid_part size parts p is).small
+
+pub overlay_line_on : (image : Image) (size : ℕ) (parts : Option (List Part)) (o : Option Part)
+    → AreSectors size image
+    → IsOverlay size parts o
+    → texts.overlay_page (overlay_on image o) ≡ kept.overlay_page o
+overlay_line_on image size parts None whole is = refl
+overlay_line_on image size parts (Some p) whole is =
+    let part = overlaid_part size parts p is in
+    ap₂ (λ (n w : ℕ). line (codes "overlay " ++ p.name ++ codes " " ++ decimal n
+    ++ codes " store " ++ decimal (length (blocks_there p.store))
+    ++ codes " written " ++ decimal w))
+    (bytes_long image size (sectors_read p) whole (read_on_disk size p part)
+    ∙ ap (λ (n : ℕ). 4096 * n) (read_long p))
+    (written_on p.image)
+
 -- ---- the page
 
 abbrev pub kept_page : Device → List ℕ
@@ -205,6 +242,7 @@ kept_page d =
     ++ kept.slot_page 0 d.control.a d.a
     ++ kept.slot_page 1 d.control.b d.b
     ++ kept.plan_page d.plan
+    ++ kept.overlay_page d.overlay
 
 pub page_on : (d : Device) (size : ℕ) (image : Image)
     → IsDevice d size
@@ -217,8 +255,10 @@ page_on d size image is whole =
     ap₂ join
     (ap₂ join
     (ap₂ join
+    (ap₂ join
     (ap (join (texts.cap_line d.cap ++ texts.current_line d.control.current))
     (phase_on image d.mark left d.plan is.planned))
     (slot_on image size whole 0 d.control.a d.a is.parts_a))
     (slot_on image size whole 1 d.control.b d.b is.parts_b))
-    (plan_on image d.mark left d.plan)
+    (plan_on image d.mark left d.plan))
+    (overlay_line_on image size (parts_at d d.mark.slot) d.overlay whole is.overlay)

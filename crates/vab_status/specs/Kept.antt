@@ -9,6 +9,7 @@ use Rattle.vab_device.specs.declared.device.PartImage.TheVariants.{Kept, Declare
 use Rattle.vab_device.specs.declared.device.PhaseKind.{PhaseKind}
 use Rattle.vab_device.specs.declared.device.PhaseKind.TheVariants.{Idle, Installing, Staged}
 use Rattle.vab_device.specs.declared.device.PhaseKind.TheVariants.{Merging}
+use Rattle.vab_device.specs.Mounted.{blocks_there, count_of}
 use Rattle.vab_fbproto.specs.Texts.{slot_letter}
 use Rattle.vab_status.specs.Page.{line, by_name, slot_line, none_line}
 
@@ -60,3 +61,23 @@ plan_line p =
 abbrev pub plan_page : Option (List Part) → List ℕ
 plan_page None = []
 plan_page (Some plan) = flat_map plan_line (by_name (λ (p : Part). p.name) plan)
+
+-- the partition that is written over, with its size in bytes, the blocks of its store, and those of
+-- its own that were written
+abbrev pub overlay_line : Part → List ℕ
+overlay_line p =
+    line
+    (codes "overlay " ++ p.name
+    ++ codes " " ++ decimal (4096 * length p.map)
+    ++ codes " store " ++ decimal (length (blocks_there p.store))
+    ++ codes " written " ++ decimal (count_of p.image))
+
+-- what is told of it, where there is one
+abbrev pub overlay_page : Option Part → List ℕ
+overlay_page None = []
+overlay_page (Some p) = overlay_line p
+
+-- it has at most 2^28 blocks
+abbrev pub IsSmall : Option Part → Type 0
+IsSmall None = Unit {0}
+IsSmall (Some p) = length p.map ≤ 2 ^ 28

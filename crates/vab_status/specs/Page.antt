@@ -10,6 +10,7 @@ use Rattle.vab_model.specs.declared.state.Image.{Image as ImageOfSlot}
 use Rattle.vab_model.specs.declared.state.PlanEntry.{PlanEntry}
 use Rattle.vab_model.specs.declared.state.PlanImage.{PlanImage}
 use Rattle.vab_model.specs.declared.state.PlanImage.TheVariants.{Kept, Declared, Written}
+use Rattle.vab_model.specs.declared.state.Overlay.{Overlay}
 use Rattle.vab_model.specs.declared.state.State.{State}
 use Rattle.vab_model.specs.declared.state.Phase.{Phase}
 use Rattle.vab_model.specs.declared.state.Phase.TheVariants.{Idle, Installing, Staged, Merging}
@@ -112,6 +113,23 @@ plan_page (Installing source plan) =
 plan_page (Staged source left) = []
 plan_page (Merging target left) = []
 
+-- ---- an overlay
+
+-- the partition that is written over, with its size in bytes, the blocks of its store, and those of
+-- its own that were written
+abbrev pub overlay_line : Overlay → List ℕ
+overlay_line o =
+    line
+    (codes "overlay " ++ o.name
+    ++ codes " " ++ decimal (length o.bytes)
+    ++ codes " store " ++ decimal o.store
+    ++ codes " written " ++ decimal (length o.blocks))
+
+-- what is told of it, where there is one
+abbrev pub overlay_page : Option Overlay → List ℕ
+overlay_page None = []
+overlay_page (Some o) = overlay_line o
+
 -- ---- all of it
 
 unfoldable pub page : State → List ℕ
@@ -122,3 +140,4 @@ page s =
     ++ slot_page 0 (info_at s.control 0) (images_at s 0)
     ++ slot_page 1 (info_at s.control 1) (images_at s 1)
     ++ plan_page s.phase
+    ++ overlay_page s.overlay

@@ -5,9 +5,12 @@
 mod law;
 mod line;
 mod order;
+mod overlay;
 mod page;
 mod plan;
 mod slot;
 
 pub use law::names_in_order;
+pub use line::bytes_of;
+pub use overlay::{exceptions, store_blocks};
 pub use page::status_page;

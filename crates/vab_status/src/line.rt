@@ -105,8 +105,8 @@ pub(crate) fn none_line(slot: usize) -> Line
     line
 }
 
-// How many bytes a partition has.
-fn bytes_of(part: &Part) -> u64
+/// How many bytes a partition has.
+pub fn bytes_of(part: &Part) -> u64
     requires { length part.now.map ≤ 2 ^ 28 }
     ensures { result ≡ 4096 * length part.now.map }
 {

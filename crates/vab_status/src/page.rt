@@ -7,6 +7,7 @@ ghost use Rattle.vab_fbvars.specs.Variables.{AreSectors};
 ghost use Rattle.vab_status.specs.Page.{page};
 
 use crate::line::{Line, cap_line, current_line, phase_line};
+use crate::overlay::push_overlay;
 use crate::plan::push_plan;
 use crate::slot::push_slot;
 use std::alloc::Global;
@@ -38,5 +39,6 @@ pub fn status_page(alloc: Global, device: &Device) -> Result<Vec<u8>, NoMemory>
     push_slot(alloc, 0, device.control.a, &device.a, &mut page)?;
     push_slot(alloc, 1, device.control.b, &device.b, &mut page)?;
     push_plan(alloc, &device.plan, &mut page)?;
+    push_overlay(&device.overlay, &mut page)?;
     Ok(page)
 }

@@ -1,4 +1,4 @@
--- The stores of a device: what its partitions hold that an update has written.
+-- The stores of a device: what its partitions hold that an update or an overlay has written.
 use Rattle.std.specs.Prelude.{ℕ, List, [], ◌∷◌, ◌++◌, length, nat_lt, if◌then◌else◌}
 use Rattle.std.specs.Prelude.{Option, Some, None}
 use Rattle.std.specs.List.{flat_map}
@@ -42,6 +42,15 @@ abbrev pub rows_at : ℕ → Option (List Part) → List StoreRow
 rows_at slot None = []
 rows_at slot (Some parts) = flat_map (row_of slot) parts
 
--- those of both slots, and of the target that is planned
+-- the row of a partition that is written over
+abbrev pub row_over : ℕ → Option Part → List StoreRow
+row_over slot None = []
+row_over slot (Some p) = row_of slot p
+
+-- those of both slots, of the target that is planned, and of an overlay
 abbrev pub rows_of : Device → List StoreRow
-rows_of d = rows_at 0 d.a ++ rows_at 1 d.b ++ rows_at (other_slot d.mark.slot) d.plan
+rows_of d =
+    rows_at 0 d.a
+    ++ rows_at 1 d.b
+    ++ rows_at (other_slot d.mark.slot) d.plan
+    ++ row_over d.mark.slot d.overlay

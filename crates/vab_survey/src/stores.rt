@@ -2,7 +2,7 @@
 
 ghost use Rattle.std.specs.Prelude.{◌≡◌, ◌++◌, ◌<◌, ◌^◌, OnOk, IfOk};
 ghost use Rattle.std.specs.List.{flat_map};
-ghost use Rattle.vab_survey.specs.Rows.{used_of, row_of, rows_at, rows_of, listed};
+ghost use Rattle.vab_survey.specs.Rows.{used_of, row_of, row_over, rows_at, rows_of, listed};
 
 use std::alloc::Global;
 use vab_bytes::{Listing, Name36};
@@ -10,7 +10,7 @@ use vab_device::{Device, Part, PartImage};
 use vab_model::NoMemory;
 use vab_space::{Chunk, need_at};
 
-/// What the store of a partition holds that an update has written.
+/// What the store of a partition holds that an update or an overlay has written.
 #[derive(Clone, Copy, Debug, PartialEq, Eq)]
 pub struct StoreRow {
     /// The partition's slot: 0 for a, 1 for b.
@@ -84,8 +84,29 @@ fn push_slot(
     }
 }
 
+// Puts the row of a partition that is written over behind others, where there is one.
+fn push_over(
+    slot: usize,
+    overlay: &Option<Part>,
+    rows: &mut Vec<StoreRow>,
+) -> Result<(), NoMemory>
+    ensures { OnOk result (rows.new.items ≡ rows.old.items ++ row_over slot overlay.now) }
+{
+    let row = match overlay {
+        None => None,
+        Some(part) => row_of(slot, part),
+    };
+    match row {
+        None => Ok(()),
+        Some(row) => {
+            rows.push(row)?;
+            Ok(())
+        }
+    }
+}
+
 /// The stores of a device: those of both slots' images, and of the target that is planned, each in
-/// the order of its table.
+/// the order of its table, and behind them that of an overlay.
 pub fn store_rows(alloc: Global, device: &Device) -> Result<Vec<StoreRow>, NoMemory>
     requires { device.now.mark.slot < 2 }
     ensures { IfOk result (λ rows. rows.items ≡ rows_of device.now) }
@@ -94,5 +115,6 @@ pub fn store_rows(alloc: Global, device: &Device) -> Result<Vec<StoreRow>, NoMem
     push_slot(0, &device.a, &mut rows)?;
     push_slot(1, &device.b, &mut rows)?;
     push_slot(1 - device.mark.slot, &device.plan, &mut rows)?;
+    push_over(device.mark.slot, &device.overlay, &mut rows)?;
     Ok(rows)
 }

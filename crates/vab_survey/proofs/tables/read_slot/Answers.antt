@@ -1,4 +1,4 @@
-use Rattle.vab_tidy.proofs.PlaceLaws.{copies_on_disk}
+use Rattle.vab_device.proofs.PlaceLaws.{copies_on_disk}
 use Rattle.vab_survey.proofs.tables.read_slot.Goals as goal
 
 pub load_table-requires-clause-on_disk : goal.load_table-requires-clause-on_disk
