@@ -6,4 +6,5 @@ mod Keeping
 mod Overlaying
 mod Planned
 mod Reading
+mod Sessions
 mod Wiping

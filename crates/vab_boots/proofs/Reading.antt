@@ -40,16 +40,17 @@ abbrev done_of : (block : ℕ) → List ℕ → Effect State → List BlockWrite
 done_of block bytes e = if_done e.reply (record { block = block; bytes = bytes } ∷ [])
 
 -- These writes are whole, and the device has them behind its overlay's.
-record Wrote (m : Mounted) (o : OverlayOf) (ws : List BlockWrite) (next : Mounted) : Type 0 where
-  whole : All (IsWholeWrite (blocks_in o.bytes)) ws
-  is : next ≡ overlaid_by m (Some (written_all ws o))
+pub record Wrote (m : Mounted) (o : OverlayOf) (ws : List BlockWrite) (next : Mounted) : Type 0
+  where
+    pub whole : All (IsWholeWrite (blocks_in o.bytes)) ws
+    pub is : next ≡ overlaid_by m (Some (written_all ws o))
 
 module _ (m : Mounted) (o : OverlayOf) (over : m.state.overlay ≡ Some o) where
   abbrev Whole : BlockWrite → Type 0
   Whole = IsWholeWrite (blocks_in o.bytes)
 
   -- nothing is written
-  same : Wrote m o [] m
+  pub same : Wrote m o [] m
   same = record {
     whole = All-nil Whole;
     is = ap (overlaid_by m) over;
@@ -95,7 +96,7 @@ module _ (m : Mounted) (o : OverlayOf) (over : m.state.overlay ≡ Some o) where
   by_overlay block (Some bytes) = by_staged block bytes
 
   -- the command that is a write
-  one_writes : (staged : Option (List ℕ)) (c : Command)
+  pub one_writes : (staged : Option (List ℕ)) (c : Command)
       → is_write c ≡ true
       → Wrote m o
       (if_done (effect_on m staged c).reply (write_of staged c))
@@ -112,13 +113,13 @@ module _ (m : Mounted) (o : OverlayOf) (over : m.state.overlay ≡ Some o) where
 
 -- ---- a list of them
 
-written_on : (ws more : List BlockWrite) (o : OverlayOf)
+pub written_on : (ws more : List BlockWrite) (o : OverlayOf)
     → written_all (ws ++ more) o ≡ written_all more (written_all ws o)
 written_on [] more o = refl
 written_on (w ∷ ws) more o = written_on ws more (written_over w.block w.bytes o)
 
 -- as many blocks are behind them
-as_many : (ws : List BlockWrite) (blocks : ℕ) (o : OverlayOf)
+pub as_many : (ws : List BlockWrite) (blocks : ℕ) (o : OverlayOf)
     → blocks_in o.bytes ≡ blocks
     → All (IsWholeWrite blocks) ws
     → blocks_in (written_all ws o).bytes ≡ blocks
@@ -130,7 +131,7 @@ as_many (w ∷ ws) blocks o is all =
     as_many ws blocks (written_over w.block w.bytes o) (omega (arith, long, is))
     (All-tail (IsWholeWrite blocks) w ws all)
 
-all_on : (P : BlockWrite → Type 0) (ws more : List BlockWrite)
+pub all_on : (P : BlockWrite → Type 0) (ws more : List BlockWrite)
     → All P ws
     → All P more
     → All P (ws ++ more)
@@ -169,11 +170,12 @@ all_write m o (a ∷ rest) over are =
 -- ---- behind its begin
 
 -- It is overlaid over the image of this name, and nothing is written yet.
-record IsBegun (m : Mounted) (name : List ℕ) (next : Mounted) : Type 0 where
-  image : ImageOfSlot
-  store : ℕ
-  named : image_named (base_of name) (images_of m.state m.state.control.current) ≡ Some image
-  is : next ≡ overlaid_by m (Some (blank_overlay image store))
+pub record IsBegun (m : Mounted) (name : List ℕ) (next : Mounted) : Type 0 where
+  pub idle : m.state.phase ≡ Idle
+  pub image : ImageOfSlot
+  pub store : ℕ
+  pub named : image_named (base_of name) (images_of m.state m.state.control.current) ≡ Some image
+  pub is : next ≡ overlaid_by m (Some (blank_overlay image store))
 
 module _ (m : Mounted) (name : List ℕ) where
   abbrev slot : ℕ
@@ -190,48 +192,54 @@ module _ (m : Mounted) (name : List ℕ) where
   begins_unless false r e is = refused_not r
 
   by_text : (image : ImageOfSlot) (store : ℕ) (r : Result Layout EditFault)
+      → m.state.phase ≡ Idle
       → found ≡ Some image
       → Begins (over_effect m image store r)
-  by_text image store (Ok l) named = λ done. record {
+  by_text image store (Ok l) idle named = λ done. record {
+    idle = idle;
     image = image;
     store = store;
     named = named;
     is = refl;
   }
-  by_text image store (Err fault) named = refused_not _
+  by_text image store (Err fault) idle named = refused_not _
 
   by_table : (image : ImageOfSlot) (store : ℕ) (l : Option Layout)
+      → m.state.phase ≡ Idle
       → found ≡ Some image
       → Begins (over_table m name slot l image store)
-  by_table image store None named = refused_not refusals.NoImages
-  by_table image store (Some l) named = by_text image store _ named
+  by_table image store None idle named = refused_not refusals.NoImages
+  by_table image store (Some l) idle named = by_text image store _ idle named
 
   by_image : (size : ℕ) (i : Option ImageOfSlot)
+      → m.state.phase ≡ Idle
       → found ≡ i
       → Begins
       (overlay_image m.state.cap (images_of m.state slot) size
       (over_table m name slot (layout_at m.places slot)) i)
-  by_image size None named = refused_not refusals.Unknown
-  by_image size (Some image) named =
+  by_image size None idle named = refused_not refusals.Unknown
+  by_image size (Some image) idle named =
       let store : ℕ = store_of_size (blocks_in image.bytes) size in
       let used : ℕ = used_over (images_of m.state slot) store in
       begins_unless (nat_le used m.state.cap) (refusals.NoRoom used m.state.cap) _
-      (by_table image store (layout_at m.places slot) named)
+      (by_table image store (layout_at m.places slot) idle named)
 
-  by_phase : (size : ℕ) (phase : Phase) → Begins (overlay_begun m name size phase)
-  by_phase size Idle =
+  by_phase : (size : ℕ) (phase : Phase)
+      → m.state.phase ≡ phase
+      → Begins (overlay_begun m name size phase)
+  by_phase size Idle idle =
       begins_unless (is_full slot name) refusals.BadName _
-      (begins_unless (is_store_size size) refusals.BadSize _ (by_image size found refl))
-  by_phase size (Installing source plan) = refused_not refusals.NotIdle
-  by_phase size (Staged source left) = refused_not refusals.NotIdle
-  by_phase size (Merging target left) = refused_not refusals.NotIdle
+      (begins_unless (is_store_size size) refusals.BadSize _ (by_image size found idle refl))
+  by_phase size (Installing source plan) other = refused_not refusals.NotIdle
+  by_phase size (Staged source left) other = refused_not refusals.NotIdle
+  by_phase size (Merging target left) other = refused_not refusals.NotIdle
 
   by_plain : (size : ℕ) (o : Option OverlayOf)
       → Begins (if_plain o (overlay_begun m name size m.state.phase))
-  by_plain size None = by_phase size m.state.phase
+  by_plain size None = by_phase size m.state.phase refl
   by_plain size (Some o) = refused_not refusals.NotIdle
 
-begins : (m : Mounted) (staged : Option (List ℕ)) (name : List ℕ) (size : ℕ)
+pub begins : (m : Mounted) (staged : Option (List ℕ)) (name : List ℕ) (size : ℕ)
     → (effect_on m staged (Overlay name size)).reply ≡ replies.Done
     → IsBegun m name (after_of m (effect_on m staged (Overlay name size)))
 begins m staged name size = by_plain m name size m.state.overlay

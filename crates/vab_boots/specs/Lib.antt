@@ -4,4 +4,5 @@ pub mod Images
 pub mod Installed
 pub mod Overlaid
 pub mod Read
+pub mod Sessions
 pub mod Wiped

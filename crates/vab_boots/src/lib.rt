@@ -11,5 +11,5 @@ mod wipes;
 pub use boots::{always_boots, begun_merge_stands_alone};
 pub use images::finished_images;
 pub use installs::running_slot_stays;
-pub use overlays::{overlay_leaves_the_device, writes_are_read};
+pub use overlays::{overlay_leaves_the_device, sessions_write_over, writes_are_read};
 pub use wipes::wiped_slot_is_empty;

@@ -2,6 +2,8 @@
 ghost use Rattle.vab_boots.specs.Overlaid.{StepsLeaveTheRest, OverlaysLeaveTheRest};
 ghost use Rattle.vab_boots.specs.Overlaid.{DiscardGivesBack};
 ghost use Rattle.vab_boots.specs.Read.{WritesAreRead};
+ghost use Rattle.vab_boots.specs.Sessions.{OverlaysBegin, SessionsWrite, SessionsWriteWhole};
+ghost use Rattle.vab_boots.specs.Sessions.{WrittenIsRead};
 
 /// The commands of an overlay change nothing of a device but the overlay: at each step of one, and
 /// behind any list of them, with any staged bytes, the images of both slots, the groups, boot
@@ -18,4 +20,16 @@ pub fn overlay_leaves_the_device()
 /// the image that the begin has found.
 pub fn writes_are_read()
     ensures { WritesAreRead }
+{}
+
+/// The same of sessions, of which what `run` promises says that each outcome has all acknowledged
+/// packets and some of the situations of one more: from the begin of an overlay on, and behind any
+/// packets that write over it, ask or bring data, those writes that were done stand behind the
+/// earlier ones, in this session and those before it; one that is cut is written whole or not at
+/// all; and each block reads as the last of them.
+pub fn sessions_write_over()
+    ensures begin { OverlaysBegin }
+    ensures write { SessionsWrite }
+    ensures whole { SessionsWriteWhole }
+    ensures read { WrittenIsRead }
 {}
