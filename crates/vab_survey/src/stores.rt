@@ -85,11 +85,7 @@ fn push_slot(
 }
 
 // Puts the row of a partition that is written over behind others, where there is one.
-fn push_over(
-    slot: usize,
-    overlay: &Option<Part>,
-    rows: &mut Vec<StoreRow>,
-) -> Result<(), NoMemory>
+fn push_over(slot: usize, overlay: &Option<Part>, rows: &mut Vec<StoreRow>) -> Result<(), NoMemory>
     ensures { OnOk result (rows.new.items ≡ rows.old.items ++ row_over slot overlay.now) }
 {
     let row = match overlay {
