@@ -1,14 +1,12 @@
 -- The commands of an overlay change nothing but the overlay.
 use Rattle.std.proofs.Common.{◌≡◌, ◌∙◌, ℕ, true, inl, inr, List, [], ◌∷◌, Option, Some, None, refl}
-use Rattle.std.proofs.Common.{sym, ap, subst}
-use Rattle.std.specs.Prelude.{All}
+use Rattle.std.proofs.Common.{sym, ap}
 use Rattle.std.proofs.lemmas.List.Elements.{All-head, All-tail}
 use Rattle.vab_model.specs.declared.state.Overlay.{Overlay as OverlayOf}
-use Rattle.vab_model.specs.declared.command.Reply.{Reply}
 use Rattle.vab_model.specs.declared.command.Reply.TheVariants as replies
 use Rattle.vab_model.specs.declared.command.Refusal.TheVariants as refusals
 use Rattle.vab_model.specs.Commands.{Command, Overlay, OverlayWrite, OverlayDiscard}
-use Rattle.vab_model.specs.Effects.{Effect, IsOneOf, steps_of, after_of, last_of, effect_map}
+use Rattle.vab_model.specs.Effects.{IsOneOf, steps_of, after_of, last_of, effect_map}
 use Rattle.vab_model.specs.Machine.{machine_effect}
 use Rattle.vab_model.specs.Overlay.{discard_row}
 use Rattle.vab_device.specs.Mounted.{Mounted, in_state}
@@ -56,8 +54,12 @@ last_leaves m staged c is =
     makes m (λ l. IsOverlaidFrom m (last_of m l)) (own m)
     (λ o. record { overlay = o; is = refl }) staged c is
 
-behind : (m x y : Mounted) → IsOverlaidFrom m x → IsOverlaidFrom x y → IsOverlaidFrom m y
-behind m x y first second = record {
+-- one behind the other
+pub overlaid_behind : (m x y : Mounted)
+    → IsOverlaidFrom m x
+    → IsOverlaidFrom x y
+    → IsOverlaidFrom m y
+overlaid_behind m x y first second = record {
   overlay = second.overlay;
   is = second.is ∙ ap (λ (n : Mounted). overlaid_by n second.overlay) first.is;
 }
@@ -71,7 +73,7 @@ lists_leave m (a ∷ rest) are =
     All-head (λ (x : Asked). is_of_overlay x.command ≡ true) a rest are in
     let more = All-tail (λ (x : Asked). is_of_overlay x.command ≡ true) a rest are in
     let next : Mounted = after_of m (effect_on m a.staged a.command) in
-    behind m next (after_all next rest) (last_leaves m a.staged a.command of)
+    overlaid_behind m next (after_all next rest) (last_leaves m a.staged a.command of)
     (lists_leave next rest more)
 
 discarded : (m : Mounted) (o : Option OverlayOf)

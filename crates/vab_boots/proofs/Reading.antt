@@ -1,8 +1,8 @@
 -- What the begin of an overlay and the writes behind it make of a device is read as it was written.
-use Rattle.std.proofs.Common.{◌≡◌, ◌∙◌, ℕ, ◌+◌, true, false, inl, inr, List, [], ◌∷◌, ◌++◌, length}
+use Rattle.std.proofs.Common.{◌≡◌, ◌∙◌, ℕ, ◌+◌, true, false, List, [], ◌∷◌, ◌++◌, length}
 use Rattle.std.proofs.Common.{Option, Some, None, Result, Ok, Err, refl, sym, ap, subst, arith}
 use Rattle.std.specs.Prelude.{Bool, All, ◌==◌, nat_lt, nat_le}
-use Rattle.std.proofs.lemmas.Bool.{cases_Bool, eqb-true, ltb-true}
+use Rattle.std.proofs.lemmas.Bool.{eqb-true, ltb-true}
 use Rattle.std.proofs.lemmas.List.Elements.{All-head, All-tail, All-cons, All-nil}
 use Rattle.vab_names.specs.Names.{is_full, base_of}
 use Rattle.vab_space.specs.Space.{need_of}
@@ -20,11 +20,11 @@ use Rattle.vab_model.specs.Commands.{Command, Overlay, OverlayWrite}
 use Rattle.vab_model.specs.Effects.{Effect, effect_map, after_of, last_of, if_plain}
 use Rattle.vab_model.specs.Machine.{machine_effect}
 use Rattle.vab_model.specs.Over.{written_over, blank_overlay}
-use Rattle.vab_model.specs.Overlay.{unless, write_staged, if_room, write_row, overlay_image}
+use Rattle.vab_model.specs.Overlay.{unless, write_staged, write_row, overlay_image}
 use Rattle.vab_model.specs.Overlay.{store_of_size, used_over, is_store_size}
 use Rattle.vab_model.specs.Plans.{blocks_in, images_of}
 use Rattle.vab_model.specs.State.{image_named}
-use Rattle.vab_model.specs.Writes.{BlockWrite, IsWholeWrite, written_all, ReadsAsWritten}
+use Rattle.vab_model.specs.Writes.{BlockWrite, IsWholeWrite, written_all}
 use Rattle.vab_model.proofs.OverLaws.{put_long, last_write_is_read}
 use Rattle.vab_device.specs.Mounted.{Mounted, in_state}
 use Rattle.vab_device.specs.Updates.{effect_on, over_effect, over_table, overlay_begun, layout_at}

@@ -1,7 +1,7 @@
 -- The packets of a session write over a partition, each whole.
 use Rattle.std.proofs.Common.{◌≡◌, ◌⊎◌, ◌∙◌, inl, inr, ℕ, true, false, List, [], ◌∷◌, ◌++◌, Option}
-use Rattle.std.proofs.Common.{Some, None, Result, Ok, Err, refl, sym, ap, subst}
-use Rattle.std.specs.Prelude.{Bool, ◌&&◌, All, nat_lt, if◌then◌else◌}
+use Rattle.std.proofs.Common.{Some, Result, Ok, Err, refl, sym, ap, subst}
+use Rattle.std.specs.Prelude.{Bool, ◌&&◌, All, nat_lt}
 use Rattle.std.proofs.lemmas.Bool.{cases_Bool}
 use Rattle.std.proofs.lemmas.List.Elements.{All-head, All-tail, All-cons, All-nil}
 use Rattle.std.proofs.lemmas.List.{append-nil}
@@ -11,7 +11,7 @@ use Rattle.vab_model.specs.declared.state.Overlay.{Overlay as OverlayOf}
 use Rattle.vab_model.specs.declared.state.Phase.{Phase}
 use Rattle.vab_model.specs.declared.state.Phase.TheVariants.{Idle}
 use Rattle.vab_model.specs.declared.command.Reply.TheVariants as replies
-use Rattle.vab_model.specs.Commands.{Command, Overlay, OverlayWrite, Merge}
+use Rattle.vab_model.specs.Commands.{Command, Overlay, OverlayWrite}
 use Rattle.vab_model.specs.Effects.{Effect, after_of, last_of}
 use Rattle.vab_model.specs.Over.{blank_overlay}
 use Rattle.vab_model.specs.Plans.{blocks_in}
@@ -23,15 +23,16 @@ use Rattle.vab_fbproto.specs.Requests.{Asked, Getvar, Download, Do, MergeAll, Bo
 use Rattle.vab_fbproto.specs.Requests.{request_of}
 use Rattle.vab_fbproto.specs.declared.request.BadCommand.{BadCommand}
 use Rattle.vab_exchanges.specs.Session.{Exchange, most_data}
-use Rattle.vab_exchanges.specs.Items.{Kept, Item, Response, item_asked, item_of, item_by, behind}
+use Rattle.vab_exchanges.specs.Items.{Kept, Item, item_asked, item_of, item_by, behind}
 use Rattle.vab_exchanges.specs.Items.{passed, item_behind, kept_after, unless_refused}
 use Rattle.vab_exchanges.specs.Items.{item_download, later_of}
 use Rattle.vab_session.specs.Responses.{response, machine, turns_between, still, by_effect}
 use Rattle.vab_session.proofs.OverlayLaws.{write_makes}
 use Rattle.vab_boots.specs.Overlaid.{overlaid_by, IsOverlaidFrom}
-use Rattle.vab_boots.specs.Read.{is_write, write_of, if_done}
+use Rattle.vab_boots.specs.Read.{is_write}
 use Rattle.vab_boots.specs.Sessions.{asks_writes, AreWriting, told_writes, asked_writes, writes_in}
 use Rattle.vab_boots.specs.Sessions.{IsWrittenOver, IsBegunOver}
+use Rattle.vab_boots.proofs.Overlaying.{overlaid_behind}
 use Rattle.vab_boots.proofs.Reading.{Wrote, same, one_writes, written_on, as_many, all_on, begins}
 
 -- ---- one packet
@@ -198,12 +199,6 @@ more_written image before ws m next is wrote =
           ∙ ap Some (sym (written_on before ws (blank_overlay image is.store)));
     }
 
-behind_both : (m x y : Mounted) → IsOverlaidFrom m x → IsOverlaidFrom x y → IsOverlaidFrom m y
-behind_both m x y first second = record {
-  overlay = second.overlay;
-  is = second.is ∙ ap (λ (n : Mounted). overlaid_by n second.overlay) first.is;
-}
-
 pub sessions_write : (turns : ℕ) (k : Kept Mounted) (image : ImageOfSlot)
     (before : List BlockWrite) (exchanges : List Exchange)
     → IsWrittenOver image before k.now
@@ -228,7 +223,7 @@ sessions_write turns k image before (s ∷ ss) is are =
           (λ (l : List BlockWrite).
           IsWrittenOver image l (kept_after (machine turns) next ss).now)
           (append_assoc before ws (writes_in turns next ss)) rest.0,
-      behind_both k.now next.now (kept_after (machine turns) next ss).now
+      overlaid_behind k.now next.now (kept_after (machine turns) next ss).now
           (record { overlay = _; is = wrote.is }) rest.1,
     )
 

@@ -1,5 +1,5 @@
 -- What is read over a partition behind commands that write over it, by what was replied to each.
-use Rattle.std.specs.Prelude.{◌≡◌, ℕ, Bool, true, false, List, [], ◌∷◌, ◌++◌, Option, Some, None}
+use Rattle.std.specs.Prelude.{◌≡◌, ℕ, Bool, true, false, List, [], ◌∷◌, ◌++◌, Option, Some}
 use Rattle.std.specs.Prelude.{All}
 use Rattle.vab_names.specs.Names.{base_of}
 use Rattle.vab_model.specs.declared.state.Image.{Image as ImageOfSlot}
@@ -8,7 +8,6 @@ use Rattle.vab_model.specs.declared.command.Reply.{Reply}
 use Rattle.vab_model.specs.declared.command.Reply.TheVariants as replies
 use Rattle.vab_model.specs.Commands.{Command, Overlay, OverlayWrite}
 use Rattle.vab_model.specs.Effects.{after_of}
-use Rattle.vab_model.specs.Over.{blank_overlay}
 use Rattle.vab_model.specs.Plans.{images_of}
 use Rattle.vab_model.specs.State.{image_named}
 use Rattle.vab_model.specs.Writes.{BlockWrite, ReadsAsWritten}

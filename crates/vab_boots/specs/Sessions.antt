@@ -91,9 +91,9 @@ WrittenIsRead = (image : ImageOfSlot) (writes : List BlockWrite) (m : Mounted)
     → IsWrittenOver image writes m
     → (o : OverlayOf) × (m.state.overlay ≡ Some o) × ReadsAsWritten image writes o
 
--- Behind any exchanges of a session that write over it, or ask, or bring data, done or refused,
--- those that were done are written behind the earlier ones, and all else of the device is as it
--- was.
+-- Behind any exchanges of a session that write over it, ask for a variable or bring data, done or
+-- refused, those that were done are written behind the earlier ones, and all else of the device is
+-- as it was.
 abbrev pub SessionsWrite : Type 0
 SessionsWrite = (turns : ℕ) (k : Kept Mounted) (image : ImageOfSlot) (before : List BlockWrite)
     (exchanges : List Exchange)

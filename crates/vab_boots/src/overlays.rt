@@ -24,9 +24,9 @@ pub fn writes_are_read()
 
 /// The same of sessions, of which what `run` promises says that each outcome has all acknowledged
 /// packets and some of the situations of one more: from the begin of an overlay on, and behind any
-/// packets that write over it, ask or bring data, those writes that were done stand behind the
-/// earlier ones, in this session and those before it; one that is cut is written whole or not at
-/// all; and each block reads as the last of them.
+/// packets that write over it, ask for a variable or bring data, those writes that were done stand
+/// behind the earlier ones, in this session and those before it; one that is cut is written whole
+/// or not at all; and each block reads as the last of them.
 pub fn sessions_write_over()
     ensures begin { OverlaysBegin }
     ensures write { SessionsWrite }

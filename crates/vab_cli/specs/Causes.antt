@@ -43,7 +43,7 @@ abbrev pub session_cause : Answer → Option Cause
 session_cause (Ok r) = None
 session_cause (Err fault) = Some (causes.Session fault)
 
--- the update that was dropped, if one was
+-- the update or overlay that was dropped, if one was
 abbrev pub dropped_cause : Option UpdateMark → Option Cause
 dropped_cause None = None
 dropped_cause (Some mark) = Some (causes.Dropped mark)
@@ -132,7 +132,7 @@ module _ {D : Type 0} (g : Ghosts D) (old : D) where
       (status ≡ NotADevice → IsNoDevice cause) × (status ≡ Refused → IsRefusedAs c cause)
 
   -- The cause of each status 3, 4 and 5 of what the words ask for, but for a refusal in a `demo`;
-  -- and the update that `adopt` has dropped.
+  -- and the update or overlay that `adopt` has dropped.
   abbrev pub Explains : Meaning → Status → Option Cause → Type 0
   Explains (words.Make limit max) status cause =
       ((status ≡ NotADevice) ⊎ (status ≡ Refused) → IsUnmadeOfInput limit max cause)

@@ -100,7 +100,7 @@ pub(crate) fn adopt<P: Port>(
     ensures unadopted { P.is_modelled
         → (result ≡ Status.NotADevice) ⊎ (result ≡ Status.Refused)
         → IsUnadopted P.Disk port.old slot cause.new }
-    // Where it is, the update that was there, if there was one.
+    // Where it is, the update or overlay that was there, if there was one.
     ensures dropped { P.is_modelled
         → result ≡ Status.Done
         → cause.new ≡ dropped_cause (dropped (P.seen port.old)) }

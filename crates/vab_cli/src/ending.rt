@@ -12,8 +12,8 @@ use vab_causes::Cause;
 pub struct Ending {
     /// The status that the program ends with.
     pub status: Status,
-    /// Why, where the status is 3, 4 or 5; where it is 0, the update that was dropped, if one was.
-    /// With another status it says nothing.
+    /// Why, where the status is 3, 4 or 5; where it is 0, the update or the overlay that was
+    /// dropped, if one was. With another status it says nothing.
     pub cause: Option<Cause>,
 }
 

@@ -16,7 +16,7 @@ pub(crate) fn note_opening(fault: &StartFault, cause: &mut Option<Cause>)
     *cause = Some(Cause::Opening(*fault));
 }
 
-/// A disk is adopted, and this update that was there is dropped.
+/// A disk is adopted, and this update or overlay that was there is dropped.
 pub(crate) fn note_dropped(dropped: &Option<UpdateMark>, cause: &mut Option<Cause>)
     ensures { cause.new ≡ dropped_cause dropped.now }
 {

@@ -61,7 +61,7 @@ pub fn run<P: Port>(alloc: Global, words: &[String], port: &mut P) -> Ending
         → verb_of (map string_bytes words.now) ≡ Some m
         → (result.status ≡ Status.NoMemory) × (port.new ≡ port.old)
         ⊎ DoesVerb P.Disk m port.old port.new result.status }
-    // The cause of a status 3, 4 or 5, and the update that `adopt` has dropped.
+    // The cause of a status 3, 4 or 5, and the update or overlay that `adopt` has dropped.
     ensures cause { P.is_modelled
         → (m : Meaning)
         → verb_of (map string_bytes words.now) ≡ Some m

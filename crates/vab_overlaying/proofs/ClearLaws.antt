@@ -1,12 +1,10 @@
 -- The store of an overlay stands behind the copies of the tables, and no image has a sector of it.
-use Rattle.std.proofs.Common.{◌≡◌, ◌∙◌, ℕ, ◌-◌, ◌*◌, ◌≤◌, List, sym, ap, subst}
-use Rattle.std.specs.Prelude.{Option, Some}
+use Rattle.std.proofs.Common.{ℕ, ◌-◌, ◌*◌, ◌≤◌, sym, ap, subst}
 use Rattle.vab_disk.specs.Disk.{Image}
 use Rattle.vab_geometry.specs.declared.geometry.Geometry.{Geometry}
-use Rattle.vab_device.specs.declared.device.Part.{Part}
 use Rattle.vab_device.specs.declared.device.Device.{Device}
 use Rattle.vab_device.specs.Kept.{IsDevice, copies_end, parts_at}
-use Rattle.vab_device.specs.Reading.{Represents, IsOfBlocks, IsOfImages}
+use Rattle.vab_device.specs.Reading.{Represents, IsOfImages}
 use Rattle.vab_overlaying.specs.Writes.{IsOfOverlaid}
 use Rattle.vab_overlaying.proofs.ShapeLaws.{IsOver, over_of}
 use Rattle.vab_overlaying.proofs.NextLaws.{store_stored, behind, none_of_images}

@@ -2,11 +2,10 @@
 -- that the slot is overlaid.
 use Rattle.std.proofs.Common.{◌≡◌, inl, inr, ℕ, zero, suc, ◌+◌, ◌-◌, ◌*◌, ◌≤◌}
 use Rattle.std.proofs.Common.{◌<◌, true, false, List, [], ◌∷◌, length, take, sym, subst, arith}
-use Rattle.std.specs.Prelude.{◌==◌, if◌then◌else◌, Option, Some, map, Contains, slice_index}
+use Rattle.std.specs.Prelude.{◌==◌, Some, map, Contains, slice_index}
 use Rattle.std.proofs.lemmas.Bool.{cases_Bool, and_parts, leb-true, eqb-true}
 use Rattle.vab_disk.specs.Disk.{Image}
 use Rattle.vab_disk.specs.Calls.{InSectors, IsBetween}
-use Rattle.vab_geometry.specs.declared.geometry.Geometry.{Geometry}
 use Rattle.vab_lpstore.specs.Layout.{copy_sectors, primary_of, backup_of}
 use Rattle.vab_lpstore.proofs.StoreLaws.{copies_apart}
 use Rattle.vab_tables.specs.declared.table.Table.{Table}
@@ -17,7 +16,7 @@ use Rattle.vab_layout.specs.Overlay.{Overlaid, IsOverlaidBy}
 use Rattle.vab_blocks.proofs.Contained.{first, later}
 use Rattle.vab_store.specs.Layout.{InFirst}
 use Rattle.vab_device.specs.declared.device.Device.{Device}
-use Rattle.vab_device.specs.Kept.{IsDevice, IsTableOf, IsKeptTable, copies_end, sectors_of, part_on}
+use Rattle.vab_device.specs.Kept.{IsDevice, IsTableOf, copies_end, sectors_of, part_on}
 use Rattle.vab_device.specs.Kept.{table_of_slot, parts_of}
 use Rattle.vab_device.specs.Reading.{Read, Live, Misses, IsOfBlocks, IsOfParts}
 use Rattle.vab_device.specs.Reading.{IsOfImages, IsOfTables, Dead, parts_for, table_for}

@@ -1,19 +1,16 @@
 -- The devices that are kept as an overlay begins.
-use Rattle.std.proofs.Common.{◌≡◌, ◌∙◌, inl, inr, ℕ, ◌<◌, true, false, List, refl, sym, ap, subst}
-use Rattle.std.specs.Prelude.{◌==◌, if◌then◌else◌, Bool, Option, Some, None, is_some}
+use Rattle.std.proofs.Common.{◌≡◌, ◌∙◌, inl, inr, ℕ, ◌<◌, false, List, refl, sym, ap, subst}
+use Rattle.std.specs.Prelude.{◌==◌, Option, Some}
 use Rattle.vab_marks.specs.declared.mark.MarkPhase.{MarkPhase}
 use Rattle.vab_marks.specs.declared.mark.MarkPhase.TheVariants as marks
 use Rattle.vab_tables.specs.declared.table.Table.{Table}
 use Rattle.vab_layout.specs.Layout.{layout_of}
 use Rattle.vab_layout.specs.Slots.{other_slot}
-use Rattle.vab_layout.proofs.LayoutLaws.{layout_keeps}
 use Rattle.vab_device.specs.declared.device.Part.{Part}
 use Rattle.vab_device.specs.declared.device.Device.{Device}
-use Rattle.vab_device.specs.Kept.{IsDevice, IsTableOf, IsUpdate, AreParts, IsOverlay, IsOverlaidOn}
+use Rattle.vab_device.specs.Kept.{IsDevice, IsTableOf, IsOverlay, IsOverlaidOn}
 use Rattle.vab_device.specs.Kept.{table_of_slot, parts_of, parts_at, has_slot}
 use Rattle.vab_device.specs.Kept.{reads_both, is_installing}
-use Rattle.vab_device.proofs.OverlayLaws.{plain_none}
-use Rattle.vab_device.proofs.OwnParts.{parts_kept}
 use Rattle.vab_device.proofs.PhaseCases.{cases_slot}
 use Rattle.vab_overlaying.specs.Begun.{with_table, over_part, over_device, IsOver}
 use Rattle.vab_device.proofs.SlotTable.{kept_table, no_update, retabled_a, retabled_b}

@@ -1,12 +1,10 @@
 -- A disk of which blocks of the store are others, with another list of exceptions that ends clean,
 -- is the device with that list.
-use Rattle.std.proofs.Common.{◌≡◌, ◌∙◌, inl, inr, ℕ, zero, suc, ◌+◌, ◌-◌, ◌*◌, ◌≤◌, ◌<◌, List}
+use Rattle.std.proofs.Common.{◌≡◌, ◌∙◌, inl, inr, ℕ, zero, suc, ◌-◌, ◌*◌, ◌≤◌, ◌<◌, List}
 use Rattle.std.proofs.Common.{[], ◌∷◌, length, Ok, refl, sym, ap, subst, arith, true, false}
 use Rattle.std.specs.Prelude.{Option, Some, ◌==◌, All, option_map}
-use Rattle.std.specs.Prelude.{slice_index}
 use Rattle.std.proofs.lemmas.Bool.{cases_Bool, eqb-true, and_parts, leb-true}
 use Rattle.vab_disk.specs.Disk.{Image}
-use Rattle.vab_disk.specs.Calls.{IsBetween}
 use Rattle.vab_bootctl.specs.declared.slots.Control.{Control}
 use Rattle.vab_bootctl.specs.Control.{control_of}
 use Rattle.vab_marks.specs.declared.mark.MarkPhase.TheVariants as marks

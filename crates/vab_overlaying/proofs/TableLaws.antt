@@ -1,41 +1,27 @@
 -- A table that is the same without stores in place of the slot's: all that the disk means stays.
-use Rattle.std.proofs.Common.{◌≡◌, ◌∙◌, inl, inr, ⊎_elim, ℕ, zero, suc, ◌+◌, ◌≤◌, ◌<◌}
-use Rattle.std.proofs.Common.{true, List, [], Ok, refl, sym, ap, arith}
-use Rattle.std.specs.Prelude.{◌==◌, ◌*◌, ◌/◌, Some, None}
-use Rattle.std.proofs.Math.Nat.{mul-le-mul_right}
+use Rattle.std.proofs.Common.{◌≡◌, ◌∙◌, inl, inr, ⊎_elim, ℕ, zero, suc, ◌≤◌, ◌<◌}
+use Rattle.std.proofs.Common.{true, List, Ok, refl, sym, ap, arith}
+use Rattle.std.specs.Prelude.{◌==◌}
 use Rattle.std.proofs.lemmas.Bool.{cases_Bool}
 use Rattle.vab_disk.specs.Disk.{Image, Outcome}
 use Rattle.vab_bootctl.specs.declared.slots.Control.{Control}
-use Rattle.vab_bootctl.specs.Control.{control_of}
-use Rattle.vab_marks.specs.declared.mark.MarkPhase.TheVariants as marks
 use Rattle.vab_marks.specs.declared.mark.UpdateMark.{UpdateMark}
-use Rattle.vab_marks.specs.Mark.{rephased, resloted}
+use Rattle.vab_marks.specs.Mark.{resloted}
 use Rattle.vab_geometry.specs.declared.geometry.Geometry.{Geometry}
 use Rattle.vab_geometry.specs.Geometry.{IsGeometry}
 use Rattle.vab_tables.specs.declared.table.Table.{Table}
 use Rattle.vab_tables.specs.Text.{IsTableText}
-use Rattle.vab_lpstore.specs.Layout.{copy_sectors, primary_of, backup_of, BothHold}
-use Rattle.vab_lpstore.specs.Loading.{slot_table}
+use Rattle.vab_lpstore.specs.Layout.{copy_sectors, BothHold}
 use Rattle.vab_lpstore.specs.Storing.{SameElsewhere, LeavesEitherTable}
-use Rattle.vab_lpstore.proofs.StoreLaws.{copies_apart, both_table, backup_byte}
+use Rattle.vab_lpstore.proofs.StoreLaws.{both_table}
 use Rattle.vab_layout.specs.Layout.{layout_of}
 use Rattle.vab_layout.specs.Plain.{plain}
-use Rattle.vab_partitions.specs.Rules.{bad_part}
 use Rattle.vab_device.specs.declared.device.Device.{Device}
-use Rattle.vab_device.specs.Checks.{names_none}
-use Rattle.vab_device.specs.Kept.{lies_in, parts_of, copies_end, super_bytes}
-use Rattle.vab_device.specs.Mounted.{images_on, mounted_on, state_on}
-use Rattle.vab_device.specs.Phases.{own_check}
-use Rattle.vab_device.specs.Reading.{Read, kept, device, Reads, Represents, table_at, table_read}
-use Rattle.vab_device.specs.Reading.{version_at, most_at}
-use Rattle.vab_device.proofs.Behind.{images_behind}
-use Rattle.vab_device.proofs.CheckLaws.{first_kept}
-use Rattle.vab_device.proofs.IdleLaws.{reads_idle}
-use Rattle.vab_device.proofs.OpeningLaws.{control_seen_in}
-use Rattle.vab_device.proofs.ReadingLaws.{device_of, device_same, device_stands, single_works}
-use Rattle.vab_device.proofs.RepairLaws.{end_of, ends_within, repair_same}
-use Rattle.vab_device.proofs.MostLaws.{parts_under}
-use Rattle.vab_device.proofs.SameLaws.{mark_same, geometry_same, images_same, version_same}
+use Rattle.vab_device.specs.Kept.{lies_in}
+use Rattle.vab_device.specs.Mounted.{mounted_on}
+use Rattle.vab_device.specs.Reading.{Represents}
+use Rattle.vab_device.proofs.ReadingLaws.{device_same, device_stands}
+use Rattle.vab_device.proofs.RepairLaws.{repair_same}
 use Rattle.vab_device.proofs.UpdateLaws.{kept_with}
 use Rattle.vab_device.proofs.StandsLaws.{StandsIdle, read_at}
 use Rattle.vab_device.proofs.AlikeLaws.{cap_is, limits_are, reads_alike, means_alike}

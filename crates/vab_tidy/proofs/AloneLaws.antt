@@ -1,12 +1,11 @@
 -- The table of a slot alone: all that a device is read of stays.
 use Rattle.std.proofs.Common.{◌≡◌, ◌∙◌, ℕ, List, ◌∷◌, false, refl, sym, ap, subst}
-use Rattle.std.specs.Prelude.{Bool, map}
+use Rattle.std.specs.Prelude.{Bool}
 use Rattle.std.specs.List.{filter}
 use Rattle.std.proofs.lemmas.List.Elements.{filter_passes}
-use Rattle.vab_names.specs.Names.{is_of_slot, base_of, default_name}
+use Rattle.vab_names.specs.Names.{is_of_slot, default_name}
 use Rattle.vab_tables.specs.declared.entries.Group.{Group}
 use Rattle.vab_tables.specs.declared.table.Table.{Table}
-use Rattle.vab_tables.specs.Rules.{cap_of}
 use Rattle.vab_tables.specs.Spelling.{as_minor_2}
 use Rattle.vab_layout.specs.declared.layout.Part.{Part}
 use Rattle.vab_layout.specs.declared.layout.Layout.{Layout}
@@ -15,9 +14,6 @@ use Rattle.vab_layout.specs.Slots.{own_parts}
 use Rattle.vab_layout.specs.Plain.{plain, default_group, own_groups}
 use Rattle.vab_builder.proofs.ListLaws.{filter_all}
 use Rattle.vab_builder.proofs.SlotLaws.{default_of_no_slot}
-use Rattle.vab_builder.proofs.ImportLaws.{plain_parts}
-use Rattle.vab_builder.proofs.TableLaws.{layout_groups, plain_device}
-use Rattle.vab_device.specs.Kept.{part_on, parts_of, limits_of}
 
 filter_again : {X : Type 0} (p : X → Bool) (xs : List X) → filter p (filter p xs) ≡ filter p xs
 filter_again p xs = filter_all p (filter p xs) (filter_passes p xs)

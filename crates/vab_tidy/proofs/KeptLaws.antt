@@ -1,14 +1,13 @@
 -- What is kept of a device with the table of its slot alone.
-use Rattle.std.proofs.Common.{◌≡◌, ◌∙◌, ℕ, zero, suc, ◌<◌, true, false, refl, ap, arith}
-use Rattle.std.proofs.Common.{subst}
-use Rattle.std.specs.Prelude.{◌==◌, if◌then◌else◌, Bool, Option, Some, None, is_some}
+use Rattle.std.proofs.Common.{◌≡◌, ◌∙◌, ℕ, zero, suc, ◌<◌, refl, ap, arith}
+use Rattle.std.specs.Prelude.{◌==◌, if◌then◌else◌, Option, Some, is_some}
 use Rattle.vab_geometry.specs.declared.geometry.Geometry.{Geometry}
 use Rattle.vab_geometry.specs.Geometry.{IsGeometry}
 use Rattle.vab_tables.specs.declared.table.Table.{Table}
 use Rattle.vab_marks.specs.declared.mark.MarkPhase.TheVariants as marks
 use Rattle.vab_layout.specs.Slots.{other_slot}
 use Rattle.vab_device.specs.declared.device.Device.{Device}
-use Rattle.vab_device.specs.Kept.{IsDevice, IsTableOf, IsKeptTable, IsUpdate, table_of_slot}
+use Rattle.vab_device.specs.Kept.{IsDevice, IsTableOf, IsKeptTable, table_of_slot}
 use Rattle.vab_device.specs.Kept.{lies_in, reads_both}
 use Rattle.vab_tidy.specs.declared.prepared.Alone.{Alone}
 use Rattle.vab_tidy.specs.Kept.{with_table}

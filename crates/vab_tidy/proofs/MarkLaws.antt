@@ -1,11 +1,7 @@
 -- The mark of no update in place of that of a merge that has ended: all is read as before.
-use Rattle.std.proofs.Common.{◌≡◌, ◌≢◌, ◌∙◌, ℕ, zero, suc, ◌≤◌, List, [], ◌∷◌, Result, Ok, Err}
-use Rattle.std.proofs.Common.{inl, inr, refl, sym, ap, subst, arith, true, false}
-use Rattle.std.specs.Prelude.{Bool, ◌&&◌, ◌||◌, not, IsTrue, nat_lt, slice_index, Option, Some}
-use Rattle.std.specs.Prelude.{None}
-use Rattle.std.specs.Prelude.{option_map, ok_or}
-use Rattle.std.proofs.lemmas.Bool.{cases_Bool}
-use Rattle.vab_bytes.specs.Number.{field}
+use Rattle.std.proofs.Common.{◌≡◌, ◌≢◌, ◌∙◌, ℕ, ◌≤◌, [], ◌∷◌, Result, Ok, Err}
+use Rattle.std.proofs.Common.{inl, refl, sym, ap, arith, true, false}
+use Rattle.std.specs.Prelude.{not}
 use Rattle.vab_disk.specs.Disk.{Image}
 use Rattle.vab_bootctl.specs.Control.{control_of}
 use Rattle.vab_marks.specs.declared.mark.MarkPhase.{MarkPhase}
@@ -13,11 +9,8 @@ use Rattle.vab_marks.specs.declared.mark.MarkPhase.TheVariants as marks
 use Rattle.vab_marks.specs.declared.mark.UpdateMark.{UpdateMark}
 use Rattle.vab_marks.specs.declared.sector.MarkFault.{MarkFault}
 use Rattle.vab_marks.specs.declared.version.MarkVersion.TheVariants.{Two}
-use Rattle.vab_marks.specs.declared.sector.MarkFault.TheVariants.{BadField}
 use Rattle.vab_marks.specs.Mark.{FlagsFit, mark_of, rephased}
-use Rattle.vab_marks.specs.Sector.{are_zeros, head_fault}
-use Rattle.vab_marks.specs.Sector as sectors
-use Rattle.vab_marks.specs.Version.{is_version, partitions_under}
+use Rattle.vab_marks.specs.Version.{partitions_under}
 use Rattle.vab_geometry.specs.declared.geometry.Geometry.{Geometry}
 use Rattle.vab_lpstore.specs.Layout.{primary_of, backup_of}
 use Rattle.vab_lpstore.specs.Storing.{SameElsewhere}

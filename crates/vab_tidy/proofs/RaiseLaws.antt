@@ -1,6 +1,6 @@
 -- What is read of a disk of version 1 at each moment while the mark of version 2 is written.
-use Rattle.std.proofs.Common.{◌≡◌, ◌≢◌, ◌∙◌, ◌⊎◌, inl, inr, ⊎_elim, ℕ, ◌+◌, List, Ok, refl, sym, ap}
-use Rattle.std.proofs.Common.{replicate, subst, arith}
+use Rattle.std.proofs.Common.{◌≡◌, ◌∙◌, inl, inr, ⊎_elim, ℕ, List, Ok, refl, sym, ap}
+use Rattle.std.proofs.Common.{replicate, arith}
 use Rattle.vab_disk.specs.declared.disk.Disk.{Ghosts}
 use Rattle.vab_disk.specs.Disk.{Image, Outcome, Adds, LeavesEither, LeavesWith, IsAt, set_sector}
 use Rattle.vab_disk.specs.Calls.{InSectors, IsAtRest, SameBut, Touches}

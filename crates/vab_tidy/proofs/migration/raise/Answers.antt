@@ -1,6 +1,5 @@
-use Rattle.std.proofs.Common.{◌≡◌, List, ℕ, sym, subst}
+use Rattle.std.proofs.Common.{sym, subst}
 use Rattle.std.proofs.lemmas.Result.{on_ok_weaker}
-use Rattle.vab_disk.specs.Disk.{Image}
 use Rattle.vab_device.specs.Reading.{SameRead}
 use Rattle.vab_tidy.proofs.RaiseLaws.{zeroing_time, raising_touches, raising_same, raising_time}
 use Rattle.vab_tidy.proofs.migration.raise.Goals as goal
