@@ -10,10 +10,7 @@ use crate::blocks::Blocks;
 use crate::runs::Runs;
 use std::alloc::Global;
 use vab_bytes::Name36;
-use vab_tables::{Extent, NoMemory, Table};
-
-/// Sectors of a block.
-const BLOCK: u64 = 8;
+use vab_tables::{BLOCK_SECTORS, Extent, NoMemory, Table};
 
 impl Runs {
     /// The blocks of the table's partitions that have one of these names. `NoMemory` where memory
@@ -45,8 +42,8 @@ impl Blocks {
             self.old ++ flat_map (blocks_of_extent first_sector) extents.now) }
     {
         for extent in extents {
-            let from = (extent.first_sector - first_sector) / BLOCK;
-            self.push_run(from, extent.sectors / BLOCK)?;
+            let from = (extent.first_sector - first_sector) / BLOCK_SECTORS;
+            self.push_run(from, extent.sectors / BLOCK_SECTORS)?;
         }
         Ok(())
     }

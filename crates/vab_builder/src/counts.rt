@@ -12,10 +12,7 @@ ghost use Rattle.vab_builder.specs.Edits.{group_named};
 
 use vab_bytes::Name36;
 use vab_names::{default_group, in_slot, is_of_slot};
-use vab_tables::{Partition, Table};
-
-/// Sectors of a block.
-const BLOCK: u64 = 8;
+use vab_tables::{BLOCK_SECTORS, Partition, Table};
 
 /// How many blocks a partition of the table has.
 #[tactic(auto, using(crate::proofs::PartitionLaws::partition_long))]
@@ -26,7 +23,10 @@ pub(crate) fn count_blocks(table: &Table, partition: &Partition) -> u64
     ensures { result ≡ length (blocks_of_partition table.now partition.now) }
 {
     let extents = table.extents_of(partition);
-    extents.iter().map(|extent| extent.sectors / BLOCK).sum()
+    extents
+        .iter()
+        .map(|extent| extent.sectors / BLOCK_SECTORS)
+        .sum()
 }
 
 // Whether one of these partitions has the name.

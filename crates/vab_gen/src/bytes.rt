@@ -7,9 +7,7 @@ ghost use Rattle.vab_gen.specs.Blocks.{copies, filled, block_of, next_block, joi
 use crate::draws::Draws;
 use std::alloc::Global;
 use vab_set::{NoMemory, SetImage};
-use vab_space::blocks;
-
-const BLOCK: usize = 4096;
+use vab_space::{BLOCK, blocks};
 
 // How often the 8 bytes of a number stand in a block.
 const COPIES: u64 = 512;

@@ -8,9 +8,7 @@ use crate::draws::Draws;
 use std::alloc::Global;
 use vab_bytes::Name36;
 use vab_set::{Content, NoMemory, SetImage};
-use vab_space::blocks;
-
-const BLOCK: u64 = 4096;
+use vab_space::{BLOCK, blocks};
 
 // The fewest blocks of a fresh image, before the scale.
 const LEAST: u64 = 4;
@@ -39,7 +37,7 @@ pub fn fresh_image(
     let bytes = filled_blocks(alloc, draws, count)?;
     Ok(SetImage {
         name: *name,
-        size: BLOCK * count,
+        size: BLOCK as u64 * count,
         store: 0,
         bytes: Content::from_vec(bytes),
     })
@@ -62,7 +60,7 @@ pub fn next_image(
     let bytes = next_blocks(alloc, draws, old, count)?;
     Ok(SetImage {
         name: old.name,
-        size: BLOCK * count,
+        size: BLOCK as u64 * count,
         store: 0,
         bytes: Content::from_vec(bytes),
     })

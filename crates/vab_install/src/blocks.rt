@@ -14,11 +14,8 @@ use std::alloc::Global;
 use vab_disk::Disk;
 use vab_gate::DiskFault;
 use vab_linear::{Map, read_at};
-use vab_space::Chunk;
+use vab_space::{BLOCK, Chunk};
 use vab_store::image_block;
-
-/// Bytes of a block.
-const BLOCK: usize = 4096;
 
 /// The chunks of an image that differ.
 #[derive(Drop)]

@@ -7,9 +7,6 @@ use vab_blocks::Blocks;
 use vab_bytes::{Listing, Name36};
 use vab_tables::{BlockDevice, Group};
 
-/// Sectors of a block.
-pub(crate) const BLOCK: u64 = 8;
-
 /// A logical partition with its blocks.
 #[derive(Drop)]
 pub struct Part {

@@ -11,11 +11,11 @@ ghost use Rattle.vab_layout.specs.Layout.{layout_of, table_of, extent_of_run, ex
 ghost use Rattle.vab_layout.specs.Layout.{index_of, partitions_from, runs_in, RunsFit};
 ghost use Rattle.vab_layout.specs.Rules.{IsLayout};
 
-use crate::layout::{BLOCK, Layout, Part};
+use crate::layout::{Layout, Part};
 use std::alloc::Global;
 use vab_blocks::Blocks;
 use vab_bytes::{Listing, Name36};
-use vab_tables::{Extent, Group, NoMemory, Partition, Table};
+use vab_tables::{BLOCK_SECTORS, Extent, Group, NoMemory, Partition, Table};
 
 impl Layout {
     /// Bytes of the text of the layout's table.
@@ -143,9 +143,9 @@ fn push_extents(
 {
     for run in blocks.runs() {
         extents.push(Extent {
-            sectors: BLOCK * run.1,
+            sectors: BLOCK_SECTORS * run.1,
             target_type: 0,
-            first_sector: first_sector + BLOCK * run.0,
+            first_sector: first_sector + BLOCK_SECTORS * run.0,
             target_source: 0,
         })?;
     }

@@ -6,8 +6,7 @@ ghost use Rattle.vab_linear.specs.Map.{blocks_of, run_of};
 use std::alloc::Global;
 use std::marker::Model;
 use vab_disk::NoMemory;
-
-const SECTORS_OF_A_BLOCK: u64 = 8;
+use vab_gate::BLOCK_SECTORS;
 
 // Blocks that follow one another on the disk.
 #[derive(Clone, Copy, Debug, PartialEq, Eq)]
@@ -47,7 +46,7 @@ impl Map {
         let mut held = Vec::new(alloc);
         let mut count = 0;
         for run in runs {
-            let blocks = run.1 / SECTORS_OF_A_BLOCK;
+            let blocks = run.1 / BLOCK_SECTORS;
             held.push(Run {
                 first: run.0,
                 blocks,
@@ -62,7 +61,7 @@ impl Map {
         requires { first + 8 * blocks < 2 ^ 63 }
         ensures { IfOk result (λ m. m ≡ run_of first blocks) }
     {
-        Map::new(alloc, &[(first, SECTORS_OF_A_BLOCK * blocks)])
+        Map::new(alloc, &[(first, BLOCK_SECTORS * blocks)])
     }
 
     /// How many blocks there are.
@@ -82,7 +81,7 @@ impl Map {
         let mut left = block;
         for run in &self.runs {
             if left < run.blocks {
-                return run.first + SECTORS_OF_A_BLOCK * left;
+                return run.first + BLOCK_SECTORS * left;
             }
             left -= run.blocks;
         }

@@ -4,10 +4,7 @@ ghost use Rattle.std.specs.Prelude.{◌≡◌, ◌^◌, nat_le, length};
 ghost use Rattle.std.specs.List.{flat_map};
 ghost use Rattle.vab_blocks.specs.Blocks.{blocks_of_extent};
 
-use vab_tables::Extent;
-
-/// Sectors of a block.
-const BLOCK: u64 = 8;
+use vab_tables::{BLOCK_SECTORS, Extent};
 
 /// The most blocks of a partition: 2^40 bytes.
 const MAX_BLOCKS: u64 = 1 << 28;
@@ -19,7 +16,7 @@ pub fn is_small(extents: &[Extent], first_sector: u64) -> bool
 {
     let mut blocks = 0;
     for extent in extents {
-        let more = extent.sectors / BLOCK;
+        let more = extent.sectors / BLOCK_SECTORS;
         if more > MAX_BLOCKS - blocks {
             return false;
         }

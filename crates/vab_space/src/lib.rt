@@ -226,7 +226,7 @@ pub struct Want {
 }
 
 /// Bytes of a block.
-const BLOCK: u64 = 4096;
+pub const BLOCK: usize = 4096;
 
 /// Chunks of an exception store for `n` exceptions (the kernel's dm-snapshot persistent store, with
 /// chunks of 8 sectors): the header, areas of 256 entries with room for the entry that ends the
@@ -244,7 +244,7 @@ pub fn blocks(bytes: u64) -> u64
     ensures enough { bytes ≤ 4096 * result }
     ensures least { 4096 * result < bytes + 4096 }
 {
-    bytes.div_ceil(BLOCK)
+    bytes.div_ceil(BLOCK as u64)
 }
 
 /// Whether the used blocks are within the capacity.
@@ -278,5 +278,5 @@ pub fn group_sum(blocks: &[u64]) -> u64
     ensures { result ≡ group_sum_of blocks.now }
 {
     let sum: u64 = blocks.iter().sum();
-    BLOCK * sum
+    BLOCK as u64 * sum
 }

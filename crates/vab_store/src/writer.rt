@@ -16,10 +16,7 @@ use vab_disk::Disk;
 use vab_exceptions::{Exception, encode_area, encode_store_header};
 use vab_gate::{DiskFault, SECTOR};
 use vab_linear::{Map, write_at};
-use vab_space::{Chunk, need_at};
-
-/// Bytes of a block.
-const BLOCK: usize = 4096;
+use vab_space::{BLOCK, Chunk, need_at};
 
 /// Entries of a page.
 const PAGE_ENTRIES: usize = 256;

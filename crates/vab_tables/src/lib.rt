@@ -19,4 +19,5 @@ pub use encode::encode_table;
 pub use entries::{BlockDevice, Extent, Group, Partition};
 pub use fault::{EntryKind, NoMemory, TableFault};
 pub use header::{needed_size, text_size};
+pub use rules::BLOCK_SECTORS;
 pub use table::{Table, table_size};

@@ -20,22 +20,22 @@ pub trait Rules<E> {
 /// Bytes of a sector.
 const SECTOR: u64 = 512;
 
-/// Sectors of a block.
-const BLOCK: u64 = 8;
+/// Sectors of a block of 4096 bytes.
+pub const BLOCK_SECTORS: u64 = 8;
 
 impl BlockDevice {
     /// Whole blocks of 4096 bytes from the first logical sector to the end of the device.
     pub fn cap(&self) -> u64
         ensures { result ≡ cap_of self.now }
     {
-        (self.size / SECTOR).saturating_sub(self.first_logical_sector) / BLOCK
+        (self.size / SECTOR).saturating_sub(self.first_logical_sector) / BLOCK_SECTORS
     }
 
     // The sector behind the last whole block.
     fn end(&self) -> u64
         ensures { result ≡ end_of self.now }
     {
-        self.first_logical_sector + BLOCK * self.cap()
+        self.first_logical_sector + BLOCK_SECTORS * self.cap()
     }
 
     #[tactic(auto, unfolding(crate::specs::Rules::device_passes))]
@@ -43,7 +43,7 @@ impl BlockDevice {
         ensures { result ≡ device_passes self.now }
     {
         self.flags == 0
-            && self.first_logical_sector % BLOCK == 0
+            && self.first_logical_sector % BLOCK_SECTORS == 0
             && self.first_logical_sector <= self.size / SECTOR
     }
 }
@@ -86,8 +86,8 @@ impl Extent {
         self.target_type == 0
             && self.target_source == 0
             && self.sectors > 0
-            && self.sectors % BLOCK == 0
-            && self.first_sector % BLOCK == 0
+            && self.sectors % BLOCK_SECTORS == 0
+            && self.first_sector % BLOCK_SECTORS == 0
             && device.first_logical_sector <= self.first_sector
             && self.first_sector <= end
             && self.sectors <= end - self.first_sector
