@@ -3,8 +3,8 @@
 use std::test::*;
 use vab_bytes::{Name36, crc32, put_le32};
 use vab_marks::{
-    MarkFault, MarkPhase, MarkVersion, PartStatus, StatusImage, UpdateMark, decode_mark,
-    decode_status, encode_mark, encode_status,
+    MarkFault, MarkPhase, MarkVersion, PartStatus, PhysicalSizes, StatusImage, UpdateMark,
+    decode_mark, decode_physical, decode_status, encode_mark, encode_physical, encode_status,
 };
 use vab_space::Chunk;
 
@@ -28,6 +28,7 @@ const IDLE: UpdateMark = UpdateMark {
     slot: 0,
     apart: false,
     overlaid: false,
+    physical: false,
 };
 
 #[test]
@@ -37,6 +38,7 @@ fn marks_as_bytes(rt: HostRuntime) {
         slot: 1,
         apart: false,
         overlaid: false,
+        physical: false,
     };
     let bytes = encode_mark(&mark);
     let sum = [0x0c, 0x0b, 0x94, 0xb3];
@@ -61,6 +63,7 @@ fn marks_as_bytes(rt: HostRuntime) {
             slot: 0,
             apart,
             overlaid,
+            physical: false,
         };
         assert!(rt; decode_mark(&bytes) == Ok(mark), "{byte}");
         assert!(rt; encode_mark(&mark) == bytes, "{byte}");
@@ -72,12 +75,54 @@ fn marks_as_bytes(rt: HostRuntime) {
 }
 
 #[test]
+fn a_mark_of_physical_partitions(rt: HostRuntime) {
+    let mark = UpdateMark {
+        physical: true,
+        ..IDLE
+    };
+    let mut bytes = [0; 512];
+    bytes[..8].copy_from_slice(b"VABU\x02\0\0\x01");
+    put_sum(&mut bytes);
+    assert!(rt; decode_mark(&bytes) == Ok(mark));
+    assert!(rt; encode_mark(&mark) == bytes);
+    assert!(rt;
+        mark.begun(false)
+            .with_phase(MarkPhase::Merging)
+            .with_slot(1)
+            .physical
+    );
+    bytes[7] = 2;
+    put_sum(&mut bytes);
+    assert!(rt; decode_mark(&bytes) == Err(MarkFault::BadField));
+}
+
+#[test]
+fn sizes_of_physical_partitions(rt: HostRuntime) {
+    let sizes = PhysicalSizes {
+        boot: 1 << 20,
+        vbmeta: 1,
+    };
+    let bytes = encode_physical(&sizes);
+    assert!(rt; bytes.starts_with(b"VABP\x01\0\0\0\0\0\x10\0\0\0\0\0\x01\0"));
+    assert!(rt; decode_physical(&bytes) == Ok(sizes));
+    assert!(rt; decode_physical(&[0; 512]) == Err(MarkFault::BadMagic));
+    for (at, byte) in [(5, 1), (8, 1), (16, 0), (24, 1), (507, 1)] {
+        let mut bytes = bytes;
+        bytes[at] = byte;
+        assert!(rt; decode_physical(&bytes) == Err(MarkFault::BadSum), "{at}");
+        put_sum(&mut bytes);
+        assert!(rt; decode_physical(&bytes) == Err(MarkFault::BadField), "{at}");
+    }
+}
+
+#[test]
 fn a_mark_of_version_1_is_read(rt: HostRuntime) {
     let mark = UpdateMark {
         phase: MarkPhase::Merging,
         slot: 1,
         apart: false,
         overlaid: false,
+        physical: false,
     };
     let mut bytes = [0u8; 512];
     bytes[..8].copy_from_slice(b"VABU\x01\x03\x01\0");

@@ -1,3 +1,4 @@
 pub mod MarkLaws
 pub mod SectorLaws
 pub mod StatusLaws
+pub mod PhysicalLaws

@@ -1,7 +1,8 @@
 -- The update mark: the spelling of each under a version, and what the bytes of a sector mean.
 use Rattle.std.specs.Prelude.{ℕ, zero, suc, ◌<◌, Bool, true, false, not, ◌&&◌, ◌||◌, nat_lt, IsTrue}
 use Rattle.std.specs.Prelude.{if◌then◌else◌, List, [], ◌∷◌, ◌++◌}
-use Rattle.std.specs.Prelude.{slice_index, Option, Some, None, ok_or, Result, Err}
+use Rattle.std.specs.Prelude.{slice_index, Option, Some, None, ok_or, option_map, Result, Err}
+use Rattle.std.specs.Prelude.{◌==◌}
 use Rattle.vab_bytes.specs.Number.{field}
 use Rattle.vab_marks.specs.declared.sector.MarkFault.{MarkFault}
 use Rattle.vab_marks.specs.declared.sector.MarkFault.TheVariants.{BadField}
@@ -52,10 +53,15 @@ phase_spelled m = phase_byte m.phase m.apart m.overlaid
 abbrev pub mark_magic : List ℕ
 mark_magic = 86 ∷ 65 ∷ 66 ∷ 85 ∷ []
 
--- the magic, the version, the phase, the slot, and zeros
+-- the byte of a flag
+abbrev pub flag_byte : Bool → ℕ
+flag_byte flag = if flag then 1 else 0
+
+-- the magic, the version, the phase, the slot, the flag of physical partitions, and zeros
 abbrev pub mark_front : MarkVersion → UpdateMark → List ℕ
 mark_front v m =
-    mark_magic ++ version_byte v ∷ phase_spelled m ∷ m.slot ∷ zeros 501
+    mark_magic
+    ++ version_byte v ∷ phase_spelled m ∷ m.slot ∷ flag_byte m.physical ∷ zeros 500
 
 -- that, and the sum
 unfoldable pub mark_under : MarkVersion → UpdateMark → List ℕ
@@ -67,7 +73,13 @@ mark_spelling m = mark_under Two m
 
 -- the mark of this phase and slot, where there is none yet
 abbrev pub mark_at : MarkPhase → ℕ → UpdateMark
-mark_at phase slot = record { phase = phase; slot = slot; apart = false; overlaid = false }
+mark_at phase slot = record {
+  phase = phase;
+  slot = slot;
+  apart = false;
+  overlaid = false;
+  physical = false;
+}
 
 -- the mark of a slot whose phase has this byte
 abbrev pub mark_by : (slot byte : ℕ) → Option UpdateMark
@@ -100,6 +112,10 @@ rephased phase m = record m {
 abbrev pub resloted : ℕ → UpdateMark → UpdateMark
 resloted slot m = record m { slot = slot }
 
+-- the same mark of a device with physical partitions, or without
+abbrev pub with_physical : (physical : Bool) → UpdateMark → UpdateMark
+with_physical physical m = record m { physical = physical }
+
 -- the mark of an installation from this one's slot, whose target stands apart or not
 abbrev pub begun : (apart : Bool) → UpdateMark → UpdateMark
 begun apart m = record m { phase = Installing; apart = apart; overlaid = false }
@@ -112,8 +128,12 @@ overlaid_by overlaid m = record m { phase = Idle; apart = false; overlaid = over
 -- stands
 abbrev pub mark_fields : List ℕ → Result UpdateMark MarkFault
 mark_fields bytes =
-    if nat_lt (slice_index bytes 6) 2 && are_zeros (field bytes 7 501)
-    then ok_or (mark_by (slice_index bytes 6) (slice_index bytes 5)) BadField
+    if nat_lt (slice_index bytes 6) 2
+    && (nat_lt (slice_index bytes 7) 2 && are_zeros (field bytes 8 500))
+    then ok_or
+    (option_map (with_physical (slice_index bytes 7 == 1))
+    (mark_by (slice_index bytes 6) (slice_index bytes 5)))
+    BadField
     else Err BadField
 
 -- the mark in the bytes of a sector, under either version, or the first fault

@@ -5,7 +5,8 @@ ghost use Rattle.vab_marks.specs.declared.mark.UpdateMark.{UpdateMark};
 ghost use Rattle.vab_marks.specs.declared.version.MarkVersion.{MarkVersion};
 ghost use Rattle.vab_marks.specs.Mark.{FitsMark, phase_spelled, mark_at, mark_by, mark_under};
 ghost use Rattle.vab_marks.specs.Mark.{is_idle, mark_of, mark_spelling, may_stand_apart};
-ghost use Rattle.vab_marks.specs.Mark.{rephased, resloted, begun, overlaid_by};
+ghost use Rattle.vab_marks.specs.Mark.{rephased, resloted, begun, overlaid_by, with_physical};
+ghost use Rattle.vab_marks.specs.Mark.{flag_byte};
 ghost use Rattle.vab_marks.specs.Version.{version_in};
 
 use crate::sector::{MarkFault, are_zeros, blank, head_fault, put, seal};
@@ -39,6 +40,9 @@ pub struct UpdateMark {
     pub apart: bool,
     /// The slot is overlaid, in Idle alone: a store stands over one of its partitions.
     pub overlaid: bool,
+    /// There are physical partitions behind `super`, boot and vbmeta of each slot. No command
+    /// changes it.
+    pub physical: bool,
 }
 
 impl MarkPhase {
@@ -67,6 +71,7 @@ impl UpdateMark {
             slot,
             apart: false,
             overlaid: false,
+            physical: false,
         }
     }
 
@@ -101,6 +106,13 @@ impl UpdateMark {
             MarkPhase::Merging => 3,
             MarkPhase::Completed => 4,
         }
+    }
+
+    // The byte of the flag of physical partitions.
+    fn physical_byte(self) -> u8
+        ensures { result ≡ flag_byte self.physical }
+    {
+        if self.physical { 1 } else { 0 }
     }
 
     /// The same mark with another phase, and no overlay; where no target stands apart in that, none
@@ -141,6 +153,13 @@ impl UpdateMark {
         }
     }
 
+    // The same mark of a device with physical partitions, or without.
+    fn with_physical(self, physical: bool) -> UpdateMark
+        ensures { result ≡ with_physical physical self }
+    {
+        UpdateMark { physical, ..self }
+    }
+
     /// The same mark of another slot.
     pub fn with_slot(self, slot: usize) -> UpdateMark
         ensures { result ≡ resloted slot self }
@@ -156,10 +175,13 @@ fn mark_in(bytes: &[u8; 512]) -> Result<UpdateMark, MarkFault>
     if let Some(fault) = head_fault(bytes, MAGIC, MarkVersion::is_version(bytes[4])) {
         return Err(fault);
     }
-    if bytes[6] > 1 || !are_zeros(&bytes[7..508]) {
+    if bytes[6] > 1 || bytes[7] > 1 || !are_zeros(&bytes[8..508]) {
         return Err(MarkFault::BadField);
     }
-    UpdateMark::from_byte(bytes[6] as usize, bytes[5]).ok_or(MarkFault::BadField)
+    match UpdateMark::from_byte(bytes[6] as usize, bytes[5]) {
+        Some(mark) => Ok(mark.with_physical(bytes[7] == 1)),
+        None => Err(MarkFault::BadField),
+    }
 }
 
 /// The mark of this sector, under either version, or the first fault.
@@ -191,7 +213,12 @@ pub fn encode_mark(mark: &UpdateMark) -> [u8; 512]
     put(
         &mut bytes,
         4,
-        &[MarkVersion::Two.to_byte(), mark.to_byte(), mark.slot as u8],
+        &[
+            MarkVersion::Two.to_byte(),
+            mark.to_byte(),
+            mark.slot as u8,
+            mark.physical_byte(),
+        ],
     );
     seal(&mut bytes);
     bytes

@@ -17,6 +17,7 @@ front c =
       c.blank-bytes.ensures,
       c.to_byte.ensures,
       c.to_byte-2.ensures,
+      c.physical_byte.ensures,
     ) refl in
     ap (λ (t : List ℕ). take 508 t) drawn ∙ drawn_mark c.args.mark.now
 
