@@ -17,6 +17,7 @@ pub data Command : Type 0 where
   Delete : (name : List ℕ) → Command
   Snapshot : (name : List ℕ) (size : ℕ) → Command
   Flash : (name : List ℕ) (chunk : Chunk) → Command
+  Keep : (name : List ℕ) → Command
   Finish : Command
   Cancel : Command
   BeginMerge : Command
@@ -39,6 +40,7 @@ command_of (code.Resize name size) = Resize name.now size
 command_of (code.Delete name) = Delete name.now
 command_of (code.Snapshot name size) = Snapshot name.now size
 command_of (code.Flash name chunk) = Flash name.now chunk
+command_of (code.Keep name) = Keep name.now
 command_of code.Finish = Finish
 command_of code.Cancel = Cancel
 command_of code.BeginMerge = BeginMerge

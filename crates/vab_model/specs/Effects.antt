@@ -7,6 +7,7 @@ use Rattle.vab_bootctl.specs.declared.slots.Control.{Control}
 use Rattle.vab_names.specs.Names.{is_full, base_of}
 use Rattle.vab_model.specs.declared.state.Image.{Image}
 use Rattle.vab_model.specs.declared.state.Overlay.{Overlay}
+use Rattle.vab_model.specs.declared.state.Physical.{Physical}
 use Rattle.vab_model.specs.declared.state.State.{State}
 use Rattle.vab_model.specs.declared.command.Refusal.{Refusal}
 use Rattle.vab_model.specs.declared.command.Refusal.TheVariants.{BadName, Unknown, NoImages}
@@ -14,7 +15,8 @@ use Rattle.vab_model.specs.declared.command.Refusal.TheVariants.{NoMemory, NotId
 use Rattle.vab_model.specs.declared.command.Reply.{Reply}
 use Rattle.vab_model.specs.declared.command.Reply.TheVariants as replies
 use Rattle.vab_model.specs.Over.{read_over}
-use Rattle.vab_model.specs.State.{with_control, image_named}
+use Rattle.vab_model.specs.State.{with_control}
+use Rattle.vab_model.specs.Physical.{image_among}
 
 -- A reply; the states that follow one another, none for a refusal or a question; and whether memory
 -- may be refused in its place.
@@ -51,15 +53,17 @@ abbrev pub found_image : Option Image → Found
 found_image None = Refused_by Unknown
 found_image (Some image) = Image_is image
 
-abbrev pub found_in : Option (List Image) → List ℕ → Found
-found_in None name = Refused_by NoImages
-found_in (Some images) name = found_image (image_named (base_of name) images)
+-- of a slot with these images and physical partitions
+abbrev pub found_in : (slot : ℕ) → List Physical → Option (List Image) → List ℕ → Found
+found_in slot physical None name = Refused_by NoImages
+found_in slot physical (Some images) name =
+    found_image (image_among slot (base_of name) physical images)
 
 -- the image of a name with a slot's suffix
 abbrev pub found_under : State → List ℕ → Found
 found_under s name =
-    if is_full 0 name then found_in s.a name
-    else (if is_full 1 name then found_in s.b name else Refused_by BadName)
+    if is_full 0 name then found_in 0 s.physical s.a name
+    else (if is_full 1 name then found_in 1 s.physical s.b name else Refused_by BadName)
 
 -- what was found as it is read, with what is written over it
 abbrev pub found_over : Option Overlay → Found → Found

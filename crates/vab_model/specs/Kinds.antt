@@ -4,7 +4,7 @@ use Rattle.std.specs.Prelude.{◌≡◌, ℕ, Bool, true, false}
 use Rattle.vab_model.specs.Commands.{Command, SetActive, Boot, Mark, Print, Digest, Begin, Create}
 use Rattle.vab_model.specs.Commands.{Resize, Delete, Snapshot, Flash, Finish, Cancel, BeginMerge}
 use Rattle.vab_model.specs.Commands.{Merge, Factory, UpdateSuper, Overlay, OverlayWrite}
-use Rattle.vab_model.specs.Commands.{OverlayDiscard}
+use Rattle.vab_model.specs.Commands.{OverlayDiscard, Keep}
 
 pub record Kind : Type 0 where
   -- it gives up the images of a source, changes where those of the target are read, or changes the
@@ -58,6 +58,7 @@ kind_of (Resize name size) = edit
 kind_of (Delete name) = edit
 kind_of (Snapshot name size) = edit
 kind_of (Flash name chunk) = record plain { uses_staged = true }
+kind_of (Keep name) = plain
 kind_of Finish =
     record plain { of_installation = true; ends_alone = true; changes_images = true }
 kind_of Cancel = record verb { changes_images = true }

@@ -5,6 +5,7 @@ pub mod Overlay
 pub mod Writes
 pub mod Kinds
 pub mod State
+pub mod Physical
 pub mod Plans
 pub mod Staged
 pub mod Groups

@@ -19,6 +19,7 @@ use Rattle.vab_model.specs.declared.state.PlanEntry.{PlanEntry}
 use Rattle.vab_model.specs.declared.state.Plan.{Plan}
 use Rattle.vab_model.specs.declared.state.Phase.{Phase}
 use Rattle.vab_model.specs.declared.state.Phase.TheVariants.{Idle, Installing, Staged, Merging}
+use Rattle.vab_model.specs.declared.state.Physical.{Physical}
 use Rattle.vab_model.specs.declared.state.State.{State}
 use Rattle.vab_model.specs.declared.command.Refusal.{Refusal}
 use Rattle.vab_model.specs.declared.command.Refusal.TheVariants as refusals
@@ -27,7 +28,7 @@ use Rattle.vab_model.specs.declared.command.Reply.TheVariants as replies
 use Rattle.vab_model.specs.Commands.{Command, SetActive, Boot, Mark, Print, Digest, Begin, Create}
 use Rattle.vab_model.specs.Commands.{Resize, Delete, Snapshot, Flash, Finish, Cancel, BeginMerge}
 use Rattle.vab_model.specs.Commands.{Merge, Factory, UpdateSuper, Overlay, OverlayWrite}
-use Rattle.vab_model.specs.Commands.{OverlayDiscard}
+use Rattle.vab_model.specs.Commands.{OverlayDiscard, Keep}
 use Rattle.vab_model.specs.Effects.{Effect, refuses, does, wanting, active_effect, found_of}
 use Rattle.vab_model.specs.Effects.{if_plain}
 use Rattle.vab_model.specs.Effects.{print_effect, digest_effect}
@@ -37,6 +38,7 @@ use Rattle.vab_model.specs.Plans.{other_slot, images_of, bytes_named, in_use, gr
 use Rattle.vab_model.specs.Plans.{limit_of, is_within, entry_named, is_planned, at_entry}
 use Rattle.vab_model.specs.Plans.{begun_plan, with_entries, first_group, created_entry}
 use Rattle.vab_model.specs.Plans.{resized_entry, stored_entry, written_entry, without_entry}
+use Rattle.vab_model.specs.Physical.{held_by, physical_named, is_physical, with_held, all_blank}
 use Rattle.vab_model.specs.Staged.{is_sparse, filled, differences}
 use Rattle.vab_model.specs.Wipe.{wipe_effect, no_judge, wiped}
 use Rattle.vab_model.specs.Overlay.{overlay_row, write_row, discard_row}
@@ -99,12 +101,22 @@ is_written _ = false
 abbrev pub is_settled : Plan → PlanEntry → Bool
 is_settled plan e = plan.apart && is_written e.image
 
+-- the target has a partition of this base name
+abbrev pub has_name : State → List ℕ → Plan → Bool
+has_name s base plan = is_physical base s.physical || is_planned base plan.entries
+
+-- what an edit makes of a logical partition of the target, of this base name
+abbrev pub if_logical : State → List ℕ → Plan → (PlanEntry → Effect State) → Effect State
+if_logical s base plan row =
+    unless (not (is_physical base s.physical)) refusals.Physical
+    (if_planned (entry_named base plan.entries) row)
+
 abbrev pub create_row : State → List ℕ → (size source : ℕ) → Plan → Effect State
 create_row s name size source plan =
     unless (is_full (other_slot source) name) refusals.BadName
     (unless (nat_le size (2 ^ 40)) refusals.BadSize
-    (unless (not (is_planned (base_of name) plan.entries)) refusals.Exists
-    (unless (nat_lt (length plan.entries) most_partitions) refusals.TooMany
+    (unless (not (has_name s (base_of name) plan)) refusals.Exists
+    (unless (nat_lt (length s.physical + length plan.entries) most_partitions) refusals.TooMany
     (if_within s source (first_group s.groups)
     (with_entries plan (plan.entries ++ created_entry s.groups (base_of name) size ∷ []))))))
 
@@ -112,7 +124,7 @@ abbrev pub resize_row : State → List ℕ → (size source : ℕ) → Plan → 
 resize_row s name size source plan =
     unless (is_full (other_slot source) name) refusals.BadName
     (unless (nat_le size (2 ^ 40)) refusals.BadSize
-    (if_planned (entry_named (base_of name) plan.entries) (λ e.
+    (if_logical s (base_of name) plan (λ e.
     unless (not (is_some e.store)) refusals.HasStore
     (unless (not (is_settled plan e)) refusals.Written
     (if_within s source e.group
@@ -122,7 +134,7 @@ resize_row s name size source plan =
 abbrev pub delete_row : State → List ℕ → (source : ℕ) → Plan → Effect State
 delete_row s name source plan =
     unless (is_full (other_slot source) name) refusals.BadName
-    (if_planned (entry_named (base_of name) plan.entries) (λ e.
+    (if_logical s (base_of name) plan (λ e.
     unless (not (is_some e.store)) refusals.HasStore
     (unless (not (is_settled plan e)) refusals.Written
     (planned s source (with_entries plan (without_entry (base_of name) plan.entries))))))
@@ -133,7 +145,7 @@ snapshot_row s name size source plan =
     unless (not plan.apart) refusals.InPlace
     (unless (is_full (other_slot source) name) refusals.BadName
     (unless (nat_le size (2 ^ 40) && (size == 0 || nat_lt 1 (blocks_of size))) refusals.BadSize
-    (if_planned (entry_named (base_of name) plan.entries) (λ e.
+    (if_logical s (base_of name) plan (λ e.
     unless (not (is_some e.store)) refusals.HasStore
     (if_room s source
     (with_entries plan (at_entry (base_of name) (stored_entry size) plan.entries)))))))
@@ -184,13 +196,57 @@ flash_entry s source plan staged e k None =
 flash_entry s source plan staged e k (Some store) =
     flash_unwritten e (in_store s source plan e k store) staged
 
--- in its store, or in a factory install in its own blocks
+-- a physical partition as an entry, which is written or not
+abbrev pub physical_entry : Physical → Option (List ℕ) → PlanEntry
+physical_entry p held = record {
+  name = p.name;
+  group = None;
+  blocks = p.blocks;
+  store = None;
+  image = if is_some held then Written [] 0 else Declared;
+}
+
+-- the staged bytes as what the target's physical partition holds, for which no memory is taken
+abbrev pub flash_physical : State → Option (List ℕ) → (target : ℕ) → Option Physical
+    → Effect State
+flash_physical s staged target None = refuses refusals.Unknown
+flash_physical s staged target (Some p) =
+    flash_unwritten (physical_entry p (held_by target p))
+    (λ image. does replies.Done (with_held s target p.name image))
+    staged
+
+-- in its store, or in a factory install in its own blocks; or of a physical partition
 abbrev pub flash_row : State → Option (List ℕ) → List ℕ → Chunk → (source : ℕ) → Plan
     → Effect State
 flash_row s staged name k source plan =
     unless (is_full (other_slot source) name) refusals.BadName
-    (if_planned (entry_named (base_of name) plan.entries) (λ e.
+    (if is_physical (base_of name) s.physical
+    then flash_physical s staged (other_slot source) (physical_named (base_of name) s.physical)
+    else if_planned (entry_named (base_of name) plan.entries) (λ e.
     flash_entry s source plan staged e k e.store))
+
+-- ---- keep
+
+-- what the source's physical partition holds, as what the target's does
+abbrev pub keep_held : State → (target : ℕ) → Physical → Option (List ℕ) → Effect State
+keep_held s target p None = refuses refusals.NoImages
+keep_held s target p (Some bytes) = does replies.Done (with_held s target p.name bytes)
+
+-- of a physical partition, or of one of the plan or none
+abbrev pub keep_physical : State → (source : ℕ) → (planned : Bool) → Option Physical
+    → Effect State
+keep_physical s source planned None =
+    unless planned refusals.Unknown (refuses refusals.NotPhysical)
+keep_physical s source planned (Some p) =
+    unless (not (is_some (held_by (other_slot source) p))) refusals.Written
+    (keep_held s (other_slot source) p (held_by source p))
+
+-- it takes no memory
+abbrev pub keep_row : State → List ℕ → (source : ℕ) → Plan → Effect State
+keep_row s name source plan =
+    unless (is_full (other_slot source) name) refusals.BadName
+    (keep_physical s source (is_planned (base_of name) plan.entries)
+    (physical_named (base_of name) s.physical))
 
 -- ---- finish
 
@@ -207,6 +263,17 @@ declared_name least name _ = least
 abbrev pub least_declared : Option (List ℕ) → List PlanEntry → Option (List ℕ)
 least_declared least [] = least
 least_declared least (e ∷ es) = least_declared (declared_name least e.name e.image) es
+
+-- the least name of a physical partition of this slot that holds nothing that counts, and this one
+abbrev pub least_blank : (slot : ℕ) → Option (List ℕ) → List Physical → Option (List ℕ)
+least_blank slot least [] = least
+least_blank slot least (p ∷ ps) =
+    least_blank slot (if is_some (held_by slot p) then least else lesser least p.name) ps
+
+-- the least name of a partition of the target that isn't written
+abbrev pub least_missing : State → (source : ℕ) → Plan → Option (List ℕ)
+least_missing s source plan =
+    least_declared (least_blank (other_slot source) None s.physical) plan.entries
 
 -- the exceptions of all stores
 abbrev pub exceptions_of : PlanImage → ℕ
@@ -244,7 +311,7 @@ if_complete (Some name) next = refuses (refusals.Incomplete name)
 
 abbrev pub finish_row : State → (source : ℕ) → Plan → Effect State
 finish_row s source plan =
-    if_complete (least_declared None plan.entries) (does replies.Done (finished s source plan))
+    if_complete (least_missing s source plan) (does replies.Done (finished s source plan))
 
 -- ---- cancel, begin-merge, merge
 
@@ -258,7 +325,9 @@ dropped s a b = record s {
 
 abbrev pub without_images : State → (slot : ℕ) → State
 without_images s slot =
-    dropped s (if slot == 0 then None else s.a) (if slot == 0 then s.b else None)
+    record
+    (dropped s (if slot == 0 then None else s.a) (if slot == 0 then s.b else None))
+    { physical = all_blank slot s.physical }
 
 abbrev pub cancelled : State → (source : ℕ) → State
 cancelled s source = record (without_images s (other_slot source)) { phase = Idle }
@@ -322,6 +391,7 @@ machine_effect s staged (Delete name) = if_installing s.phase (delete_row s name
 machine_effect s staged (Snapshot name size) = if_installing s.phase (snapshot_row s name size)
 machine_effect s staged (Flash name chunk) =
     if_installing s.phase (flash_row s staged name chunk)
+machine_effect s staged (Keep name) = if_installing s.phase (keep_row s name)
 machine_effect s staged Finish = if_installing s.phase (finish_row s)
 machine_effect s staged Cancel = cancel_row s s.phase
 machine_effect s staged BeginMerge = begin_merge_row s s.phase

@@ -1,6 +1,6 @@
 -- The commands of an overlay: what is written over a partition of the current slot, and read in its
 -- place, where there is no update.
-use Rattle.std.specs.Prelude.{ℕ, ◌+◌, ◌^◌, ◌==◌, nat_le, nat_lt, Bool, true, false, ◌&&◌, ◌||◌}
+use Rattle.std.specs.Prelude.{ℕ, ◌+◌, ◌^◌, ◌==◌, nat_le, nat_lt, Bool, true, false, not, ◌&&◌, ◌||◌}
 use Rattle.std.specs.Prelude.{if◌then◌else◌, List, [], length, map, Option, Some, None}
 use Rattle.vab_names.specs.Names.{is_full, base_of}
 use Rattle.vab_space.specs.Space.{blocks_of, need_of, used_of}
@@ -15,6 +15,7 @@ use Rattle.vab_model.specs.declared.command.Reply.TheVariants as replies
 use Rattle.vab_model.specs.Effects.{Effect, refuses, does, wanting, if_plain}
 use Rattle.vab_model.specs.Over.{written_over, blank_overlay}
 use Rattle.vab_model.specs.Plans.{blocks_in, images_of}
+use Rattle.vab_model.specs.Physical.{is_physical}
 use Rattle.vab_model.specs.State.{image_named}
 
 -- a store of so many bytes over a partition of so many blocks, in blocks; 0 bytes are as many as
@@ -61,8 +62,9 @@ abbrev pub overlay_effect : {S : Type 0}
 overlay_effect s next name size Idle =
     unless (is_full s.control.current name) refusals.BadName
     (unless (is_store_size size) refusals.BadSize
+    (unless (not (is_physical (base_of name) s.physical)) refusals.Physical
     (overlay_image s.cap (images_of s s.control.current) size next
-    (image_named (base_of name) (images_of s s.control.current))))
+    (image_named (base_of name) (images_of s s.control.current)))))
 overlay_effect s next name size _ = refuses refusals.NotIdle
 
 -- the state with this overlay

@@ -34,6 +34,9 @@ pub enum Command<'a> {
     /// Makes the staged bytes the image of a partition of the target, in a store whose chunks have
     /// this size, or in a factory install in place.
     Flash(&'a [u8], Chunk),
+    /// Makes what a physical partition of the source holds what that of the target holds. The name
+    /// is the target's.
+    Keep(&'a [u8]),
     /// Ends the installing of an update: its target has images, and may be set active.
     Finish,
     /// Drops an update.
@@ -124,6 +127,10 @@ pub enum Refusal {
     BadLength(u64),
     /// The partition has no block of the first number: it has the second number of blocks.
     BadBlock(u64, u64),
+    /// The partition is a physical one, which has one size, and no store.
+    Physical,
+    /// The partition isn't a physical one.
+    NotPhysical,
     /// Memory was refused.
     NoMemory,
 }

@@ -2,7 +2,9 @@
 
 ghost use Rattle.std.specs.Prelude.{◌≡◌, IfOk};
 
-use crate::{GroupLimit, Image, NoMemory, Overlay, Phase, Plan, PlanEntry, PlanImage, State};
+use crate::{
+    GroupLimit, Image, NoMemory, Overlay, Phase, Physical, Plan, PlanEntry, PlanImage, State,
+};
 use std::alloc::Global;
 use vab_bytes::{Bytes, Listing};
 
@@ -51,6 +53,25 @@ fn copy_overlay(alloc: Global, overlay: &Option<Overlay>) -> Result<Option<Overl
         None => Ok(None),
         Some(overlay) => Ok(Some(overlay.copy(alloc)?)),
     }
+}
+
+fn copy_held(alloc: Global, held: &Option<Bytes>) -> Result<Option<Bytes>, NoMemory>
+    ensures { IfOk result (λ x. x ≡ held.now) }
+{
+    match held {
+        None => Ok(None),
+        Some(bytes) => Ok(Some(copy_bytes(alloc, bytes)?)),
+    }
+}
+
+fn copy_physical(alloc: Global, physical: &Listing<Physical>) -> Result<Listing<Physical>, NoMemory>
+    ensures { IfOk result (λ x. x ≡ physical.now) }
+{
+    let mut copies = Vec::new(alloc);
+    for partition in physical.as_slice() {
+        copies.push(partition.copy(alloc)?)?;
+    }
+    Ok(Listing::from_vec(copies))
 }
 
 fn copy_slot(
@@ -142,6 +163,19 @@ impl Overlay {
     }
 }
 
+impl Physical {
+    fn copy(&self, alloc: Global) -> Result<Physical, NoMemory>
+        ensures { IfOk result (λ x. x ≡ self.now) }
+    {
+        Ok(Physical {
+            name: self.name,
+            blocks: self.blocks,
+            a: copy_held(alloc, &self.a)?,
+            b: copy_held(alloc, &self.b)?,
+        })
+    }
+}
+
 impl State {
     /// The same state, in memory of its own.
     pub fn copy(&self, alloc: Global) -> Result<State, NoMemory>
@@ -153,6 +187,7 @@ impl State {
             control: self.control,
             a: copy_slot(alloc, &self.a)?,
             b: copy_slot(alloc, &self.b)?,
+            physical: copy_physical(alloc, &self.physical)?,
             phase: self.phase.copy(alloc)?,
             overlay: copy_overlay(alloc, &self.overlay)?,
         })

@@ -12,4 +12,4 @@ mod state;
 pub use command::{Command, Refusal, Reply};
 pub use fault::NoMemory;
 pub use staged::is_sparse;
-pub use state::{GroupLimit, Image, Overlay, Phase, Plan, PlanEntry, PlanImage, State};
+pub use state::{GroupLimit, Image, Overlay, Phase, Physical, Plan, PlanEntry, PlanImage, State};

@@ -82,6 +82,19 @@ pub struct Overlay {
     pub bytes: Bytes,
 }
 
+/// A physical partition: each slot has one of this name, behind `super`.
+#[derive(Drop)]
+pub struct Physical {
+    /// The base name, without the slot's suffix: boot or vbmeta.
+    pub name: Name36,
+    /// Blocks of 4096 bytes.
+    pub blocks: u64,
+    /// What that of slot a holds, where the slot has images, or an installation has written it.
+    pub a: Option<Bytes>,
+    /// What that of slot b holds.
+    pub b: Option<Bytes>,
+}
+
 /// The state of a device.
 #[derive(Drop)]
 pub struct State {
@@ -95,6 +108,8 @@ pub struct State {
     pub a: Option<Listing<Image>>,
     /// The images of slot b.
     pub b: Option<Listing<Image>>,
+    /// The physical partitions; no command makes them more or fewer.
+    pub physical: Listing<Physical>,
     pub phase: Phase,
     /// What is written over a partition of the current slot, where there is no update.
     pub overlay: Option<Overlay>,
