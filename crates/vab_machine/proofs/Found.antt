@@ -19,8 +19,8 @@ pub found_is_name : (s : State) (name : List ℕ) (image : Image)
     → found_under s name ≡ Image_is image
     → IsName name
 found_is_name s name image h =
-    elim (of_a_slot (is_full 0 name) (is_full 1 name) (found_in s.a name) (found_in s.b name) image
-    h) [
+    elim (of_a_slot (is_full 0 name) (is_full 1 name) (found_in 0 s.physical s.a name)
+    (found_in 1 s.physical s.b name) image h) [
       | inl a ↦ full_is 0 name a
       | inr b ↦ full_is 1 name b
     ]

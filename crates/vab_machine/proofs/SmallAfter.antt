@@ -2,7 +2,7 @@
 use Rattle.std.proofs.Common.{◌≡◌, ℕ, zero, suc, ◌+◌, ◌-◌, ◌*◌, ◌^◌, ◌≤◌, ◌<◌, Bool, true}
 use Rattle.std.proofs.Common.{false}
 use Rattle.std.proofs.Common.{List, [], ◌∷◌, ◌++◌, length, Option, Some, None, eqb, inl, inr, refl}
-use Rattle.std.proofs.Common.{arith, length-append}
+use Rattle.std.proofs.Common.{arith, length-append, cond}
 use Rattle.std.specs.Prelude.{All, map, replicate, nat_le, nat_lt, not, is_some, ◌&&◌, ◌||◌, ◌==◌}
 use Rattle.std.specs.List.{list_any}
 use Rattle.std.specs.Str.{bytes_eq}
@@ -32,6 +32,7 @@ use Rattle.vab_model.specs.declared.state.Plan.{Plan}
 use Rattle.vab_model.specs.declared.state.Phase.{Phase}
 use Rattle.vab_model.specs.declared.state.Phase.TheVariants.{Idle, Installing, Staged, Merging}
 use Rattle.vab_model.specs.declared.state.Overlay.{Overlay as OverlayOf}
+use Rattle.vab_model.specs.declared.state.Physical.{Physical}
 use Rattle.vab_model.specs.declared.state.State.{State}
 use Rattle.vab_model.specs.declared.command.Refusal.{Refusal}
 use Rattle.vab_model.specs.declared.command.Refusal.TheVariants as refusals
@@ -39,20 +40,22 @@ use Rattle.vab_model.specs.declared.command.Reply.TheVariants as replies
 use Rattle.vab_model.specs.Commands.{Command, SetActive, Boot, Mark, Print, Digest, Begin, Create}
 use Rattle.vab_model.specs.Commands.{Resize, Delete, Snapshot, Flash, Finish, Cancel, BeginMerge}
 use Rattle.vab_model.specs.Commands.{Merge, Factory, UpdateSuper, Overlay, OverlayWrite}
-use Rattle.vab_model.specs.Commands.{OverlayDiscard}
+use Rattle.vab_model.specs.Commands.{OverlayDiscard, Keep}
 use Rattle.vab_model.specs.Effects.{Effect, after_of, last_of, active_effect, found_of, Found}
 use Rattle.vab_model.specs.Effects.{Image_is, Refused_by, print_effect, digest_effect, does}
-use Rattle.vab_model.specs.Effects.{wanting, if_plain}
+use Rattle.vab_model.specs.Effects.{wanting, if_plain, refuses}
 use Rattle.vab_model.specs.State.{images_at, has_images, with_control, image_named}
 use Rattle.vab_model.specs.Over.{with_block, put_block, written_over, blank_overlay}
 use Rattle.vab_model.specs.Overlay.{store_of_size, is_store_size, used_over, overlay_image}
 use Rattle.vab_model.specs.Overlay.{overlay_effect, with_overlay, if_room as if_room_over}
 use Rattle.vab_model.specs.Overlay.{write_staged, write_row, discard_row, unless as unless_over}
 use Rattle.vab_model.specs.Plans.{other_slot, images_of, bytes_named, entry_named}
-use Rattle.vab_model.specs.Plans.{is_planned, first_group, created_entry, at_entry, begun_plan}
+use Rattle.vab_model.specs.Physical.{held_by, holding, physical_named, is_physical, with_held}
+use Rattle.vab_model.specs.Physical.{at_physical, all_blank}
+use Rattle.vab_model.specs.Plans.{first_group, created_entry, at_entry, begun_plan}
 use Rattle.vab_model.specs.Plans.{resized_entry, stored_entry, in_use, group_bytes, limit_of}
 use Rattle.vab_model.specs.Plans.{is_within, without_entry, with_entries, blocks_in}
-use Rattle.vab_model.specs.Plans.{bytes_or_none}
+use Rattle.vab_model.specs.Plans.{bytes_or_none, is_planned}
 use Rattle.vab_model.specs.Staged.{is_sparse, filled, differs, differences}
 use Rattle.vab_model.specs.Machine.{unless, if_installing, if_planned, planned, if_room}
 use Rattle.vab_model.specs.Machine.{if_within}
@@ -61,17 +64,20 @@ use Rattle.vab_model.specs.Machine.{snapshot_row, with_image, in_store, in_place
 use Rattle.vab_model.specs.Machine.{flash_unwritten, is_written, is_settled}
 use Rattle.vab_model.specs.Machine.{flash_entry}
 use Rattle.vab_model.specs.Machine.{flash_row, final_bytes, final_image, finished, if_complete}
-use Rattle.vab_model.specs.Machine.{least_declared, finish_row, without_images, cancel_row}
+use Rattle.vab_model.specs.Machine.{has_name, if_logical, physical_entry, flash_physical}
+use Rattle.vab_model.specs.Machine.{keep_held, keep_physical, keep_row}
+use Rattle.vab_model.specs.Machine.{least_missing, finish_row, without_images, cancel_row}
 use Rattle.vab_model.specs.Machine.{begin_merge_row, turns, merge_row, machine_effect}
 use Rattle.vab_model.specs.Wipe.{empty_image, empty_images, wiped, no_judge, filled_refusal}
 use Rattle.vab_model.specs.Wipe.{if_passing, judged_effect, staged_effect, wipe_effect}
 use Rattle.vab_machine.specs.Small.{AreSmallImages, IsSmallSlot, IsSmallImage, IsSmallEntry}
 use Rattle.vab_machine.specs.Small.{IsSmallPlan, IsSmallPhase, IsSmallOver, IsSmallOverlay}
-use Rattle.vab_machine.specs.Small.{IsSmall}
+use Rattle.vab_machine.specs.Small.{AreSmallPhysical, IsSmall}
 use Rattle.vab_machine.specs.Begun.{begun_over}
 use Rattle.vab_machine.proofs.Bounds.{images_small, store_fits}
 use Rattle.vab_machine.proofs.SmallLaws.{entry_small, resize_small, store_plan_small, create_small}
-use Rattle.vab_machine.proofs.SmallLaws.{delete_small, write_small, begin_small}
+use Rattle.vab_machine.proofs.SmallLaws.{delete_small, write_small, begin_small, blank_small}
+use Rattle.vab_machine.proofs.SmallLaws.{held_small}
 use Rattle.vab_super_image.proofs.OwnLaws.{image_own}
 
 -- the state after an effect is small
@@ -86,6 +92,13 @@ keeps_unless : (s : State) (b : Bool) (refusal : Refusal) (e : Effect State)
     → Keeps s (unless b refusal e)
 keeps_unless s true refusal e small next = next refl
 keeps_unless s false refusal e small next = small
+
+keeps_either : (s : State) (b : Bool) (e f : Effect State)
+    → Keeps s e
+    → Keeps s f
+    → Keeps s (cond b e f)
+keeps_either s true e f first other = first
+keeps_either s false e f first other = other
 
 keeps_installing : (s : State) (phase : Phase) (row : ℕ → Plan → Effect State)
     → IsSmall s
@@ -104,18 +117,34 @@ keeps_planned : (s : State) (o : Option PlanEntry) (row : PlanEntry → Effect S
 keeps_planned s None row small next = small
 keeps_planned s (Some e) row small next = next e refl
 
+keeps_logical : (s : State) (base : List ℕ) (plan : Plan) (row : PlanEntry → Effect State)
+    → IsSmall s
+    → ((e : PlanEntry) → entry_named base plan.entries ≡ Some e → Keeps s (row e))
+    → Keeps s (if_logical s base plan row)
+keeps_logical s base plan row small next =
+    keeps_unless s (not (is_physical base s.physical)) refusals.Physical
+    (if_planned (entry_named base plan.entries) row) small (λ _.
+    keeps_planned s (entry_named base plan.entries) row small next)
+
 -- ---- another plan
+
+phase_small : (s : State) (phase : Phase)
+    → IsSmall s
+    → IsSmallPhase phase
+    → IsSmall (record s { phase = phase })
+phase_small s phase small next = record {
+  a = small.a;
+  b = small.b;
+  physical = small.physical;
+  phase = next;
+  overlay = small.overlay;
+}
 
 plan_kept : (s : State) (source : ℕ) (plan : Plan)
     → IsSmall s
     → IsSmallPlan plan.entries
     → Keeps s (planned s source plan)
-plan_kept s source plan small next = record {
-  a = small.a;
-  b = small.b;
-  phase = next;
-  overlay = small.overlay;
-}
+plan_kept s source plan small next = phase_small s (Installing source plan) small next
 
 room_kept : (s : State) (source : ℕ) (plan : Plan)
     → IsSmall s
@@ -170,17 +199,18 @@ create_kept s name size source plan small next =
     let made : Plan =
     with_entries plan (es ++ created_entry s.groups (base_of name) size ∷ []) in
     let within : Effect State = if_within s source (first_group s.groups) made in
-    let few : Effect State =
-    unless (nat_lt (length es) most_partitions) refusals.TooMany within in
-    let absent : Effect State = unless (not (is_planned (base_of name) es)) refusals.Exists few in
+    let many : ℕ = length s.physical + length es in
+    let few : Effect State = unless (nat_lt many most_partitions) refusals.TooMany within in
+    let absent : Effect State =
+    unless (not (has_name s (base_of name) plan)) refusals.Exists few in
     let sized : Effect State = unless (nat_le size (2 ^ 40)) refusals.BadSize absent in
     keeps_unless s (is_full (other_slot source) name) refusals.BadName sized small (λ _.
     keeps_unless s (nat_le size (2 ^ 40)) refusals.BadSize absent small (λ le.
-    keeps_unless s (not (is_planned (base_of name) es)) refusals.Exists few small (λ _.
-    keeps_unless s (nat_lt (length es) most_partitions) refusals.TooMany within small (λ lt.
+    keeps_unless s (not (has_name s (base_of name) plan)) refusals.Exists few small (λ _.
+    keeps_unless s (nat_lt many most_partitions) refusals.TooMany within small (λ lt.
     within_kept s source (first_group s.groups) made small
     (create_small s.groups (base_of name) size es next (leb-true size (2 ^ 40) le)
-    (ltb-true (length es) most_partitions lt))))))
+    (omega (arith, ltb-true many most_partitions lt)))))))
 
 resize_kept : (s : State) (name : List ℕ) (size source : ℕ) (plan : Plan)
     → IsSmall s
@@ -195,11 +225,11 @@ resize_kept s name size source plan small next =
     λ e. unless (not (is_settled plan e)) refusals.Written (within e) in
     let plain : PlanEntry → Effect State =
     λ e. unless (not (is_some e.store)) refusals.HasStore (loose e) in
-    let found : Effect State = if_planned (entry_named (base_of name) es) plain in
+    let found : Effect State = if_logical s (base_of name) plan plain in
     let sized : Effect State = unless (nat_le size (2 ^ 40)) refusals.BadSize found in
     keeps_unless s (is_full (other_slot source) name) refusals.BadName sized small (λ _.
     keeps_unless s (nat_le size (2 ^ 40)) refusals.BadSize found small (λ le.
-    keeps_planned s (entry_named (base_of name) es) plain small (λ e _.
+    keeps_logical s (base_of name) plan plain small (λ e _.
     keeps_unless s (not (is_some e.store)) refusals.HasStore (loose e) small (λ _.
     keeps_unless s (not (is_settled plan e)) refusals.Written (within e) small (λ _.
     within_kept s source e.group made small
@@ -217,8 +247,8 @@ delete_kept s name source plan small next =
     let plain : PlanEntry → Effect State =
     λ e. unless (not (is_some e.store)) refusals.HasStore (loose e) in
     keeps_unless s (is_full (other_slot source) name) refusals.BadName
-    (if_planned (entry_named (base_of name) es) plain) small (λ _.
-    keeps_planned s (entry_named (base_of name) es) plain small (λ e _.
+    (if_logical s (base_of name) plan plain) small (λ _.
+    keeps_logical s (base_of name) plan plain small (λ e _.
     keeps_unless s (not (is_some e.store)) refusals.HasStore (loose e) small (λ _.
     keeps_unless s (not (is_settled plan e)) refusals.Written (planned s source made) small (λ _.
     plan_kept s source made small (delete_small (base_of name) es next)))))
@@ -232,14 +262,14 @@ snapshot_kept s name size source plan small next =
     let made : Plan = with_entries plan (at_entry (base_of name) (stored_entry size) es) in
     let plain : PlanEntry → Effect State =
     λ e. unless (not (is_some e.store)) refusals.HasStore (if_room s source made) in
-    let found : Effect State = if_planned (entry_named (base_of name) es) plain in
+    let found : Effect State = if_logical s (base_of name) plan plain in
     let some : Bool = size == 0 || nat_lt 1 (blocks_of size) in
     let sized : Effect State = unless (nat_le size (2 ^ 40) && some) refusals.BadSize found in
     let named : Effect State = unless (is_full (other_slot source) name) refusals.BadName sized in
     keeps_unless s (not plan.apart) refusals.InPlace named small (λ _.
     keeps_unless s (is_full (other_slot source) name) refusals.BadName sized small (λ _.
     keeps_unless s (nat_le size (2 ^ 40) && some) refusals.BadSize found small (λ within.
-    keeps_planned s (entry_named (base_of name) es) plain small (λ e _.
+    keeps_logical s (base_of name) plan plain small (λ e _.
     keeps_unless s (not (is_some e.store)) refusals.HasStore (if_room s source made) small (λ _.
     room_kept s source made small
     (store_plan_small (base_of name) size es next
@@ -329,6 +359,35 @@ flash_entry_kept s source plan staged e k (Some store) small next entry =
     unwritten_kept s e (in_store s source plan e k store) staged small
     (in_store_kept s source plan e k store small next entry)
 
+physical_small : (s : State) (physical : List Physical)
+    → IsSmall s
+    → AreSmallPhysical physical
+    → IsSmall (record s { physical = physical })
+physical_small s physical small next = record {
+  a = small.a;
+  b = small.b;
+  physical = next;
+  phase = small.phase;
+  overlay = small.overlay;
+}
+
+held_kept : (s : State) (target : ℕ) (name bytes : List ℕ)
+    → IsSmall s
+    → IsSmall (with_held s target name bytes)
+held_kept s target name bytes small =
+    physical_small s (at_physical name (holding target (Some bytes)) s.physical) small
+    (held_small target name bytes s.physical small.physical)
+
+flash_physical_kept : (s : State) (staged : Option (List ℕ)) (target : ℕ) (o : Option Physical)
+    → IsSmall s
+    → Keeps s (flash_physical s staged target o)
+flash_physical_kept s staged target None small = small
+flash_physical_kept s staged target (Some p) small =
+    let place : List ℕ → Effect State =
+    λ image. does replies.Done (with_held s target p.name image) in
+    unwritten_kept s (physical_entry p (held_by target p)) place staged small (λ image _.
+    held_kept s target p.name image small)
+
 flash_kept : (s : State) (staged : Option (List ℕ)) (name : List ℕ) (k : Chunk) (source : ℕ)
     (plan : Plan)
     → IsSmall s
@@ -337,11 +396,47 @@ flash_kept : (s : State) (staged : Option (List ℕ)) (name : List ℕ) (k : Chu
 flash_kept s staged name k source plan small next =
     let es : List PlanEntry = plan.entries in
     let row : PlanEntry → Effect State = λ e. flash_entry s source plan staged e k e.store in
-    keeps_unless s (is_full (other_slot source) name) refusals.BadName
-    (if_planned (entry_named (base_of name) es) row) small (λ _.
+    let logical : Effect State = if_planned (entry_named (base_of name) es) row in
+    let found : Option Physical = physical_named (base_of name) s.physical in
+    let physical : Effect State = flash_physical s staged (other_slot source) found in
+    let is_behind : Bool = is_physical (base_of name) s.physical in
+    let keeps : Keeps s logical =
     keeps_planned s (entry_named (base_of name) es) row small (λ e is.
     flash_entry_kept s source plan staged e k e.store small next
-    (entry_small (base_of name) es e next.each is)))
+    (entry_small (base_of name) es e next.each is)) in
+    keeps_unless s (is_full (other_slot source) name) refusals.BadName
+    (cond is_behind physical logical) small (λ _.
+    keeps_either s is_behind physical logical
+    (flash_physical_kept s staged (other_slot source) found small) keeps)
+
+-- ---- keep
+
+keep_held_kept : (s : State) (target : ℕ) (p : Physical) (held : Option (List ℕ))
+    → IsSmall s
+    → Keeps s (keep_held s target p held)
+keep_held_kept s target p None small = small
+keep_held_kept s target p (Some bytes) small = held_kept s target p.name bytes small
+
+keep_physical_kept : (s : State) (source : ℕ) (planned : Bool) (o : Option Physical)
+    → IsSmall s
+    → Keeps s (keep_physical s source planned o)
+keep_physical_kept s source planned None small =
+    keeps_unless s planned refusals.Unknown (refuses refusals.NotPhysical) small (λ _. small)
+keep_physical_kept s source planned (Some p) small =
+    let target : ℕ = other_slot source in
+    let held : Effect State = keep_held s target p (held_by source p) in
+    keeps_unless s (not (is_some (held_by target p))) refusals.Written held small (λ _.
+    keep_held_kept s target p (held_by source p) small)
+
+keep_kept : (s : State) (name : List ℕ) (source : ℕ) (plan : Plan)
+    → IsSmall s
+    → Keeps s (keep_row s name source plan)
+keep_kept s name source plan small =
+    let planned : Bool = is_planned (base_of name) plan.entries in
+    let found : Option Physical = physical_named (base_of name) s.physical in
+    keeps_unless s (is_full (other_slot source) name) refusals.BadName
+    (keep_physical s source planned found) small (λ _.
+    keep_physical_kept s source planned found small)
 
 -- ---- finish
 
@@ -382,8 +477,20 @@ finished_small s source plan small next =
     let images =
     final_small (images_of s source) plan.entries (images_small s source small) next in
     elim (cases_Bool (eqb (other_slot source) 0)) [
-      | inl t ↦ rw t (record { a = images; b = small.b; phase = tt; overlay = small.overlay })
-      | inr f ↦ rw f (record { a = small.a; b = images; phase = tt; overlay = small.overlay })
+      | inl t ↦ rw t (record {
+        a = images;
+        b = small.b;
+        physical = small.physical;
+        phase = tt;
+        overlay = small.overlay;
+      })
+      | inr f ↦ rw f (record {
+        a = small.a;
+        b = images;
+        physical = small.physical;
+        phase = tt;
+        overlay = small.overlay;
+      })
     ]
 
 complete_kept : (s : State) (least : Option (List ℕ)) (e : Effect State)
@@ -399,10 +506,25 @@ none_small : (s : State) (slot : ℕ) (phase : Phase)
     → IsSmall s
     → IsSmallPhase phase
     → IsSmall (record (without_images s slot) { phase = phase })
-none_small s slot phase small next = elim (cases_Bool (eqb slot 0)) [
-  | inl t ↦ rw t (record { a = tt; b = small.b; phase = next; overlay = small.overlay })
-  | inr f ↦ rw f (record { a = small.a; b = tt; phase = next; overlay = small.overlay })
-]
+none_small s slot phase small next =
+    let physical : AreSmallPhysical (all_blank slot s.physical) =
+    blank_small slot s.physical small.physical in
+    elim (cases_Bool (eqb slot 0)) [
+      | inl t ↦ rw t (record {
+        a = tt;
+        b = small.b;
+        physical = physical;
+        phase = next;
+        overlay = small.overlay;
+      })
+      | inr f ↦ rw f (record {
+        a = small.a;
+        b = tt;
+        physical = physical;
+        phase = next;
+        overlay = small.overlay;
+      })
+    ]
 
 cancel_kept : (s : State) (phase : Phase) → IsSmall s → Keeps s (cancel_row s phase)
 cancel_kept s Idle small = small
@@ -433,11 +555,10 @@ turns_kept : (s x : State) (n target left : ℕ)
     → IsSmall (last_of x (turns n s target left))
 unfolding turns
 turns_kept s x zero target left small last = last
-turns_kept s x (suc n) target zero small last =
-    record { a = small.a; b = small.b; phase = tt; overlay = small.overlay }
+turns_kept s x (suc n) target zero small last = phase_small s Idle small tt
 turns_kept s x (suc n) target (suc left) small last =
     turns_kept s (record s { phase = Merging target left }) n target left small
-    (record { a = small.a; b = small.b; phase = tt; overlay = small.overlay })
+    (phase_small s (Merging target left) small tt)
 
 merge_kept : (s : State) (n : ℕ) (phase : Phase) → IsSmall s → Keeps s (merge_row s n phase)
 merge_kept s n Idle small = small
@@ -470,12 +591,14 @@ wiped_small s slot i small own =
       | inl t ↦ rw t (record {
         a = images;
         b = small.b;
+        physical = small.physical;
         phase = small.phase;
         overlay = small.overlay;
       })
       | inr f ↦ rw f (record {
         a = small.a;
         b = images;
+        physical = small.physical;
         phase = small.phase;
         overlay = small.overlay;
       })
@@ -539,6 +662,7 @@ over_small : (s : State) (o : Option OverlayOf)
 over_small s o small next = record {
   a = small.a;
   b = small.b;
+  physical = small.physical;
   phase = small.phase;
   overlay = next;
 }
@@ -573,13 +697,16 @@ overlay_kept s name size Idle small =
     let images : List Image = images_of s slot in
     let found : Effect State =
     overlay_image s.cap images size (begun_over s) (image_named (base_of name) images) in
-    let sized : Effect State = unless_over (is_store_size size) refusals.BadSize found in
+    let is_behind : Bool = is_physical (base_of name) s.physical in
+    let logical : Effect State = unless_over (not is_behind) refusals.Physical found in
+    let sized : Effect State = unless_over (is_store_size size) refusals.BadSize logical in
     let some : Bool = size == 0 || nat_lt 1 (blocks_of size) in
     keeps_over s (is_full slot name) refusals.BadName sized small (λ _.
-    keeps_over s (is_store_size size) refusals.BadSize found small (λ within.
+    keeps_over s (is_store_size size) refusals.BadSize logical small (λ within.
+    keeps_over s (not is_behind) refusals.Physical found small (λ _.
     overlay_image_kept s images size (image_named (base_of name) images) small
     (leb-true size (2 ^ 40) (and_parts (nat_le size (2 ^ 40)) some within).0)
-    (bytes_short (base_of name) images (images_small s slot small).each)))
+    (bytes_short (base_of name) images (images_small s slot small).each))))
 overlay_kept s name size (Installing source plan) small = small
 overlay_kept s name size (Staged source left) small = small
 overlay_kept s name size (Merging target left) small = small
@@ -648,6 +775,7 @@ control_small : (s : State) (c : Control) → IsSmall s → IsSmall (with_contro
 control_small s c small = record {
   a = small.a;
   b = small.b;
+  physical = small.physical;
   phase = small.phase;
   overlay = small.overlay;
 }
@@ -695,10 +823,13 @@ small_after s staged (Snapshot name size) small =
 small_after s staged (Flash name chunk) small =
     keeps_installing s s.phase (flash_row s staged name chunk) small small.phase
     (λ source plan next. flash_kept s staged name chunk source plan small next)
+small_after s staged (Keep name) small =
+    keeps_installing s s.phase (keep_row s name) small small.phase
+    (λ source plan _. keep_kept s name source plan small)
 small_after s staged Finish small =
     keeps_installing s s.phase (finish_row s) small small.phase
     (λ source plan next.
-    complete_kept s (least_declared None plan.entries) _ small
+    complete_kept s (least_missing s source plan) _ small
     (finished_small s source plan small next))
 small_after s staged Cancel small = cancel_kept s s.phase small
 small_after s staged BeginMerge small = begin_merge_kept s s.phase small

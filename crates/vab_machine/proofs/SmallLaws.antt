@@ -1,10 +1,10 @@
 -- What follows from a small state is small.
 use Rattle.std.proofs.Common.{◌≡◌, ℕ, ◌^◌, ◌≤◌, ◌<◌, Bool, true, false, List}
 use Rattle.std.proofs.Common.{[]}
-use Rattle.std.proofs.Common.{◌∷◌, ◌++◌, length, Option, Some, eqb, inl, inr}
+use Rattle.std.proofs.Common.{◌∷◌, ◌++◌, length, Option, Some, None, eqb, inl, inr}
 use Rattle.std.proofs.Common.{subst}
 use Rattle.std.proofs.Common.{arith, length-append, cond}
-use Rattle.std.specs.Prelude.{All, map, not}
+use Rattle.std.specs.Prelude.{All, map, not, is_some}
 use Rattle.std.specs.List.{filter}
 use Rattle.std.specs.Str.{bytes_eq}
 use Rattle.std.proofs.lemmas.Bool.{cases_Bool}
@@ -16,10 +16,14 @@ use Rattle.vab_space.specs.Space.{need_of, blocks_of}
 use Rattle.vab_model.specs.declared.state.GroupLimit.{GroupLimit}
 use Rattle.vab_model.specs.declared.state.Image.{Image}
 use Rattle.vab_model.specs.declared.state.PlanEntry.{PlanEntry}
+use Rattle.vab_model.specs.declared.state.PlanImage.TheVariants.{Declared, Written}
+use Rattle.vab_model.specs.declared.state.Physical.{Physical}
+use Rattle.vab_model.specs.Machine.{physical_entry}
+use Rattle.vab_model.specs.Physical.{holding, physical_named, at_physical, all_blank}
 use Rattle.vab_model.specs.Plans.{entry_named, at_entry, kept_entry}
 use Rattle.vab_model.specs.Plans.{created_entry, resized_entry, stored_entry, written_entry}
 use Rattle.vab_model.specs.Plans.{without_entry, begun_plan}
-use Rattle.vab_machine.specs.Small.{AreSmallImages, IsSmallEntry}
+use Rattle.vab_machine.specs.Small.{AreSmallImages, AreSmallPhysical, IsSmallEntry, IsSmallImage}
 use Rattle.vab_machine.specs.Small.{IsSmallPlan}
 
 -- ---- entries
@@ -163,3 +167,73 @@ pub begin_small : (apart : Bool) (images : List Image)
     → IsSmallPlan (begun_plan apart images).entries
 begin_small true images small = no_entries
 begin_small false images small = kept_small images small
+
+-- ---- physical partitions
+
+-- it has at most 2^28 blocks
+abbrev pub IsLow : Physical → Type 0
+IsLow p = p.blocks ≤ 2 ^ 28
+
+pub physical_small : (name : List ℕ) (ps : List Physical) (p : Physical)
+    → All IsLow ps
+    → physical_named name ps ≡ Some p
+    → IsLow p
+physical_small name [] p each is = absurd cc
+physical_small name (x ∷ xs) p each is = elim (cases_Bool (bytes_eq x.name name)) [
+  | inl t ↦
+      let found : (let o : Option Physical = Some x in o ≡ Some p) = rw t at is in
+      let same : x ≡ p = cc in
+      subst IsLow same (All-head IsLow x xs each)
+  | inr f ↦
+      let rest : physical_named name xs ≡ Some p = rw f at is in
+      physical_small name xs p (All-tail IsLow x xs each) rest
+]
+
+written_or_not : (b : Bool) → IsSmallImage (cond b (Written [] 0) Declared)
+written_or_not true = record { bytes_small = omega arith; few = omega arith }
+written_or_not false = tt
+
+pub physical_entry_small : (p : Physical) (held : Option (List ℕ))
+    → p.blocks ≤ 2 ^ 28
+    → IsSmallEntry (physical_entry p held)
+physical_entry_small p held le = record {
+  blocks = le;
+  store = omega arith;
+  image = written_or_not (is_some held);
+}
+
+holding_low : (slot : ℕ) (bytes : Option (List ℕ)) (p : Physical)
+    → IsLow p
+    → IsLow (holding slot bytes p)
+holding_low slot bytes p le = elim (cases_Bool (eqb slot 0)) [
+  | inl t ↦ rw t le
+  | inr f ↦ rw f le
+]
+
+-- what each is made into has no more blocks
+mapped_small : (f : Physical → Physical) (ps : List Physical)
+    → ((p : Physical) → IsLow p → IsLow (f p))
+    → AreSmallPhysical ps
+    → AreSmallPhysical (map f ps)
+mapped_small f ps low small = record {
+  few = omega (arith, length-map ps f, small.few);
+  each = All-map IsLow f ps (All-weaker IsLow (λ p. IsLow (f p)) low ps small.each);
+}
+
+pub blank_small : (slot : ℕ) (ps : List Physical)
+    → AreSmallPhysical ps
+    → AreSmallPhysical (all_blank slot ps)
+blank_small slot ps small =
+    mapped_small (holding slot None) ps (λ p le. holding_low slot None p le) small
+
+pub held_small : (slot : ℕ) (name bytes : List ℕ) (ps : List Physical)
+    → AreSmallPhysical ps
+    → AreSmallPhysical (at_physical name (holding slot (Some bytes)) ps)
+held_small slot name bytes ps small =
+    let f : Physical → Physical =
+    λ p. cond (bytes_eq p.name name) (holding slot (Some bytes) p) p in
+    mapped_small f ps
+    (λ p le. elim (cases_Bool (bytes_eq p.name name)) [
+      | inl t ↦ rw t (holding_low slot (Some bytes) p le)
+      | inr n ↦ rw n le
+    ]) small

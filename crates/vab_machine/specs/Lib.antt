@@ -3,3 +3,4 @@ pub mod Changes
 pub mod Places
 pub mod Sides
 pub mod Begun
+pub mod Views

@@ -9,6 +9,7 @@ use Rattle.vab_model.specs.declared.state.PlanEntry.{PlanEntry}
 use Rattle.vab_model.specs.declared.state.Phase.{Phase}
 use Rattle.vab_model.specs.declared.state.Phase.TheVariants.{Idle, Installing, Staged, Merging}
 use Rattle.vab_model.specs.declared.state.Overlay.{Overlay}
+use Rattle.vab_model.specs.declared.state.Physical.{Physical}
 use Rattle.vab_model.specs.declared.state.State.{State}
 use Rattle.vab_model.specs.Plans.{store_blocks}
 
@@ -57,8 +58,14 @@ abbrev pub IsSmallOverlay : Option Overlay → Type 0
 IsSmallOverlay None = Unit {0}
 IsSmallOverlay (Some o) = IsSmallOver o
 
+-- no more than a slot has partitions, of at most 2^28 blocks
+pub record AreSmallPhysical (physical : List Physical) : Type 0 where
+  pub few : length physical ≤ most_partitions
+  pub each : All (λ (p : Physical). p.blocks ≤ 2 ^ 28) physical
+
 pub record IsSmall (s : State) : Type 0 where
   pub a : IsSmallSlot s.a
   pub b : IsSmallSlot s.b
+  pub physical : AreSmallPhysical s.physical
   pub phase : IsSmallPhase s.phase
   pub overlay : IsSmallOverlay s.overlay

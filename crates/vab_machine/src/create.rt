@@ -2,14 +2,15 @@
 
 ghost use Rattle.std.specs.Prelude.{◌≡◌, ◌^◌, IfOk};
 ghost use Rattle.vab_model.specs.Effects.{after_of, if_plain};
-ghost use Rattle.vab_model.specs.Machine.{begin_row, create_row, if_installing};
+ghost use Rattle.vab_model.specs.Machine.{begin_row, create_row, has_name, if_installing};
 ghost use Rattle.vab_machine.specs.Small.{IsSmall};
 
 use crate::answer::{if_within, planned, refuse};
 use crate::change::{begun_plan, with_created, with_entries};
 use crate::parts::{base_named, first_group, installing, is_planned};
+use crate::physical::is_physical;
 use std::alloc::Global;
-use vab_model::{NoMemory, Phase, Refusal, Reply, State};
+use vab_model::{NoMemory, Phase, Plan, Refusal, Reply, State};
 use vab_names::MAX_PARTITIONS;
 
 /// The most bytes of a partition.
@@ -42,6 +43,13 @@ pub(crate) fn begin(alloc: Global, state: &State, apart: bool) -> Result<(State,
     }
 }
 
+// Whether the target has a partition of this base name.
+fn has_name(state: &State, plan: &Plan, base: &[u8]) -> bool
+    ensures { result ≡ has_name state.now base.now plan.now }
+{
+    is_physical(state.physical.as_slice(), base) || is_planned(plan.entries.as_slice(), base)
+}
+
 /// A partition more.
 pub(crate) fn create(
     alloc: Global,
@@ -65,11 +73,11 @@ pub(crate) fn create(
     if size > MOST {
         return refuse(alloc, state, Refusal::BadSize);
     }
-    let entries = plan.entries.as_slice();
-    if is_planned(entries, base.text()) {
+    if has_name(state, plan, base.text()) {
         return refuse(alloc, state, Refusal::Exists);
     }
-    if entries.len() >= MAX_PARTITIONS {
+    let entries = plan.entries.as_slice();
+    if state.physical.len() + entries.len() >= MAX_PARTITIONS {
         return refuse(alloc, state, Refusal::TooMany);
     }
     let next = with_created(alloc, entries, &state.groups, base, size)?;

@@ -10,6 +10,7 @@ use crate::answer::{if_room, if_within, planned, refuse};
 use crate::change::{Change, at_entry, with_entries, without_entry};
 use crate::create::MOST;
 use crate::parts::{base_named, entry_named, installing, is_settled};
+use crate::physical::is_physical;
 use std::alloc::Global;
 use vab_model::{NoMemory, Refusal, Reply, State};
 use vab_space::blocks;
@@ -37,6 +38,9 @@ pub(crate) fn resize(
     };
     if size > MOST {
         return refuse(alloc, state, Refusal::BadSize);
+    }
+    if is_physical(state.physical.as_slice(), base.text()) {
+        return refuse(alloc, state, Refusal::Physical);
     }
     let Some(entry) = entry_named(plan.entries.as_slice(), base.text()) else {
         return refuse(alloc, state, Refusal::Unknown);
@@ -66,6 +70,9 @@ pub(crate) fn delete(alloc: Global, state: &State, name: &[u8]) -> Result<(State
     let Some(base) = base_named(name, source) else {
         return refuse(alloc, state, Refusal::BadName);
     };
+    if is_physical(state.physical.as_slice(), base.text()) {
+        return refuse(alloc, state, Refusal::Physical);
+    }
     let Some(entry) = entry_named(plan.entries.as_slice(), base.text()) else {
         return refuse(alloc, state, Refusal::Unknown);
     };
@@ -112,6 +119,9 @@ pub(crate) fn snapshot(
     };
     if !is_store_size(size) {
         return refuse(alloc, state, Refusal::BadSize);
+    }
+    if is_physical(state.physical.as_slice(), base.text()) {
+        return refuse(alloc, state, Refusal::Physical);
     }
     let Some(entry) = entry_named(plan.entries.as_slice(), base.text()) else {
         return refuse(alloc, state, Refusal::Unknown);

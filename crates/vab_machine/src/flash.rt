@@ -1,19 +1,26 @@
 //! Staged bytes that become the image of a partition.
 
-ghost use Rattle.std.specs.Prelude.{◌≡◌, ◌≤◌, ◌^◌, IfOk};
+ghost use Rattle.std.specs.Prelude.{◌≡◌, ◌≤◌, ◌^◌, IfOk, Some};
 ghost use Rattle.std.specs.Option.{option_copied};
 ghost use Rattle.vab_model.specs.Effects.{after_of};
 ghost use Rattle.vab_model.specs.Machine.{with_image, if_stored, in_place, flash_staged};
 ghost use Rattle.vab_model.specs.Machine.{flash_unwritten, flash_entry, flash_row, if_installing};
+ghost use Rattle.vab_model.specs.Machine.{physical_entry, flash_physical};
+ghost use Rattle.vab_model.specs.Physical.{held_by};
+ghost use Rattle.vab_model.specs.Plans.{other_slot};
 ghost use Rattle.vab_machine.specs.Places.{placed};
 ghost use Rattle.vab_machine.specs.Small.{IsSmall, IsSmallEntry, IsSmallPlan};
 
 use crate::answer::{planned, refuse};
 use crate::change::{Change, at_entry, with_entries};
-use crate::parts::{base_named, bytes_named, entry_named, images_of, installing, is_written};
+use crate::parts::{
+    base_named, bytes_named, entry_named, images_of, installing, is_written, other_slot,
+};
+use crate::physical::{held_by, physical_named, with_held};
 use crate::staged::{differences, filled};
 use std::alloc::Global;
-use vab_model::{NoMemory, Plan, PlanEntry, Refusal, Reply, State, is_sparse};
+use vab_bytes::Bytes;
+use vab_model::{NoMemory, Physical, Plan, PlanEntry, PlanImage, Refusal, Reply, State, is_sparse};
 use vab_space::{Chunk, need_at};
 
 // An update that is installed.
@@ -31,6 +38,8 @@ pub(crate) enum Place {
     Blocks,
     /// Into a store of so many blocks, whose chunks have this size.
     Store(u64, Chunk),
+    /// Into the target's physical partition, behind `super`.
+    Behind,
 }
 
 // The plan with this image of an entry, whose store has so many exceptions.
@@ -125,6 +134,11 @@ fn placed(
             let count = differences(source, image, entry.blocks, chunk);
             if_stored(alloc, update, entry, chunk, store, image, count)
         }
+        Place::Behind => {
+            let target = other_slot(update.source);
+            let next = with_held(alloc, update.state, target, entry.name.text(), image)?;
+            Ok((next, Reply::Done))
+        }
     }
 }
 
@@ -218,9 +232,49 @@ fn flash_entry(
     flash_unwritten(alloc, update, entry, place, staged)
 }
 
+// A physical partition as an entry, which is written or not in this slot.
+fn physical_entry(alloc: Global, slot: usize, partition: &Physical) -> PlanEntry
+    ensures { result ≡ physical_entry partition.now (held_by slot partition.now) }
+{
+    let image = if held_by(slot, partition).is_some() {
+        PlanImage::Written(Bytes::from_vec(Vec::new(alloc)), 0)
+    } else {
+        PlanImage::Declared
+    };
+    PlanEntry {
+        name: partition.name,
+        group: None,
+        blocks: partition.blocks,
+        store: None,
+        image,
+    }
+}
+
+// The image of a physical partition of the target.
+#[tactic(auto, using(crate::proofs::SmallLaws::physical_entry_small))]
+fn flash_physical(
+    alloc: Global,
+    update: &Update,
+    partition: &Physical,
+    staged: Option<&[u8]>,
+) -> Result<(State, Reply), NoMemory>
+    requires plan { IsSmallPlan (update.now).plan.now.entries }
+    requires blocks { (partition.now).blocks ≤ 2 ^ 28 }
+    ensures state { IfOk result (λ r. r.0
+        ≡ after_of (update.now).state.now
+        (flash_physical (update.now).state.now (option_copied staged.entry)
+        (other_slot (update.now).source) (Some partition.now))) }
+    ensures reply { IfOk result (λ r. r.1
+        ≡ (flash_physical (update.now).state.now (option_copied staged.entry)
+        (other_slot (update.now).source) (Some partition.now)).reply) }
+{
+    let entry = physical_entry(alloc, other_slot(update.source), partition);
+    flash_unwritten(alloc, update, &entry, Place::Behind, staged)
+}
+
 /// The staged bytes become the image of a partition, in a store with chunks of this size, or in
-/// place where the target stands apart.
-#[tactic(auto, using(crate::proofs::SmallLaws::entry_small))]
+/// place where the target stands apart, or what the target's physical partition holds.
+#[tactic(auto, using(crate::proofs::SmallLaws::physical_small))]
 pub(crate) fn flash(
     alloc: Global,
     state: &State,
@@ -243,13 +297,16 @@ pub(crate) fn flash(
     let Some(base) = base_named(name, source) else {
         return refuse(alloc, state, Refusal::BadName);
     };
-    let Some(entry) = entry_named(plan.entries.as_slice(), base.text()) else {
-        return refuse(alloc, state, Refusal::Unknown);
-    };
     let update = Update {
         state,
         source,
         plan,
+    };
+    if let Some(partition) = physical_named(state.physical.as_slice(), base.text()) {
+        return flash_physical(alloc, &update, partition, staged);
+    }
+    let Some(entry) = entry_named(plan.entries.as_slice(), base.text()) else {
+        return refuse(alloc, state, Refusal::Unknown);
     };
     flash_entry(alloc, &update, entry, staged, chunk)
 }

@@ -12,6 +12,7 @@ use crate::create::{begin, create};
 use crate::edit::{delete, resize, snapshot};
 use crate::flash::flash;
 use crate::images::{digested, printed};
+use crate::keep::keep;
 use crate::overlay::{discard, overlay, write};
 use crate::ready::finish;
 use crate::slots::{begin_merge, cancel, merge};
@@ -47,6 +48,7 @@ fn done(
         Command::Delete(name) => delete(alloc, state, name),
         Command::Snapshot(name, size) => snapshot(alloc, state, name, size),
         Command::Flash(name, chunk) => flash(alloc, state, staged, name, chunk),
+        Command::Keep(name) => keep(alloc, state, name),
         Command::Finish => finish(alloc, state),
         Command::Cancel => cancel(alloc, state),
         Command::BeginMerge => begin_merge(alloc, state),

@@ -17,6 +17,7 @@ use crate::edit::is_store_size;
 use crate::images::image_named;
 use crate::over::written_over;
 use crate::parts::{a_or_b, images_of};
+use crate::physical::is_physical;
 use std::alloc::Global;
 use vab_bytes::Listing;
 use vab_model::{Image, NoMemory, Overlay, Phase, Refusal, Reply, State};
@@ -108,7 +109,11 @@ pub(crate) fn overlay(
     if !is_store_size(size) {
         return refuse(alloc, state, Refusal::BadSize);
     }
-    match image_named(images_of(state, current), base_of(name)) {
+    let base = base_of(name);
+    if is_physical(state.physical.as_slice(), base) {
+        return refuse(alloc, state, Refusal::Physical);
+    }
+    match image_named(images_of(state, current), base) {
         None => refuse(alloc, state, Refusal::Unknown),
         Some(image) => overlay_image(alloc, state, image, size),
     }

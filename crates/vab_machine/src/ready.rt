@@ -1,19 +1,24 @@
 //! The end of an installation.
 
-ghost use Rattle.std.specs.Prelude.{◌≡◌, ◌<◌, ◌^◌, None, IfOk, map};
+ghost use Rattle.std.specs.Prelude.{◌≡◌, ◌<◌, ◌^◌, if◌then◌else◌, None, IfOk, map, is_some};
 ghost use Rattle.vab_model.specs.Effects.{after_of};
-ghost use Rattle.vab_model.specs.Machine.{lesser, declared_name, least_declared, exceptions_of};
-ghost use Rattle.vab_model.specs.Machine.{exceptions_in, final_bytes, final_image, finished};
-ghost use Rattle.vab_model.specs.Machine.{finish_row, if_installing};
+ghost use Rattle.vab_model.specs.Physical.{held_by};
+ghost use Rattle.vab_model.specs.Machine.{lesser, declared_name, least_declared, least_blank};
+ghost use Rattle.vab_model.specs.Machine.{least_missing, exceptions_of, exceptions_in};
+ghost use Rattle.vab_model.specs.Machine.{final_bytes, final_image, finished, finish_row};
+ghost use Rattle.vab_model.specs.Machine.{if_installing};
 ghost use Rattle.vab_machine.specs.Small.{IsSmall, IsSmallPlan};
 
 use crate::answer::refuse;
 use crate::change::copy_bytes;
 use crate::parts::{bytes_named, images_of, installing, other_slot};
+use crate::physical::held_by;
 use std::alloc::Global;
 use std::cmp::Ordering;
 use vab_bytes::{Bytes, Listing, Name36};
-use vab_model::{Image, NoMemory, Phase, Plan, PlanEntry, PlanImage, Refusal, Reply, State};
+use vab_model::{
+    Image, NoMemory, Phase, Physical, Plan, PlanEntry, PlanImage, Refusal, Reply, State,
+};
 
 // The lesser of two names, byte by byte.
 fn lesser(least: Option<Name36>, name: Name36) -> Option<Name36>
@@ -40,15 +45,47 @@ fn declared(least: Option<Name36>, entry: &PlanEntry) -> Option<Name36>
     }
 }
 
-// The least name of these entries that are declared and not written.
-fn least_declared(plan: &[PlanEntry]) -> Option<Name36>
-    ensures { result ≡ least_declared None plan.now }
+// The least of this name and those of the entries that are declared and not written.
+fn least_declared(name: Option<Name36>, plan: &[PlanEntry]) -> Option<Name36>
+    ensures { result ≡ least_declared name plan.now }
 {
-    let mut least = None;
+    let mut least = name;
     for entry in plan {
         least = declared(least, entry);
     }
     least
+}
+
+// The lesser of this name and the partition's, where that of the slot holds nothing that counts.
+fn blank(slot: usize, least: Option<Name36>, partition: &Physical) -> Option<Name36>
+    ensures { result
+        ≡ (if is_some (held_by slot partition.now) then least
+        else lesser least (partition.now).name) }
+{
+    if held_by(slot, partition).is_some() {
+        least
+    } else {
+        lesser(least, partition.name)
+    }
+}
+
+// The least name of a physical partition of this slot that holds nothing that counts.
+fn least_blank(slot: usize, physical: &[Physical]) -> Option<Name36>
+    ensures { result ≡ least_blank slot None physical.now }
+{
+    let mut least = None;
+    for partition in physical {
+        least = blank(slot, least, partition);
+    }
+    least
+}
+
+// The least name of a partition of the target that isn't written.
+fn least_missing(state: &State, source: usize, plan: &Plan) -> Option<Name36>
+    ensures { result ≡ least_missing state.now source plan.now }
+{
+    let name = least_blank(other_slot(source), state.physical.as_slice());
+    least_declared(name, plan.entries.as_slice())
 }
 
 fn exceptions_of(image: &PlanImage) -> u64
@@ -145,7 +182,7 @@ pub(crate) fn finish(alloc: Global, state: &State) -> Result<(State, Reply), NoM
     let Some((source, plan)) = installing(state) else {
         return refuse(alloc, state, Refusal::NotInstalling);
     };
-    match least_declared(plan.entries.as_slice()) {
+    match least_missing(state, source, plan) {
         Some(name) => refuse(alloc, state, Refusal::Incomplete(name)),
         None => Ok((finished(alloc, state, source, plan)?, Reply::Done)),
     }

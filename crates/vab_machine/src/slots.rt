@@ -1,13 +1,14 @@
 //! The end of an update: dropped or merged.
 
-ghost use Rattle.std.specs.Prelude.{◌≡◌, IfOk};
+ghost use Rattle.std.specs.Prelude.{◌≡◌, IfOk, None};
 ghost use Rattle.vab_bootctl.specs.Boot.{info_at};
 ghost use Rattle.vab_model.specs.Effects.{after_of};
-ghost use Rattle.vab_model.specs.Machine.{without_images, cancelled, cancel_row, merging_from};
-ghost use Rattle.vab_model.specs.Machine.{begin_merge_row, merge_row};
+ghost use Rattle.vab_model.specs.Machine.{dropped, without_images, cancelled, cancel_row};
+ghost use Rattle.vab_model.specs.Machine.{merging_from, begin_merge_row, merge_row};
 
 use crate::answer::refuse;
 use crate::parts::other_slot;
+use crate::physical::all_blank;
 use std::alloc::Global;
 use vab_bootctl::{Control, Info};
 use vab_model::{NoMemory, Phase, Refusal, Reply, State};
@@ -20,7 +21,7 @@ const NO_INFO: Info = Info {
 
 // Slot a has no images any more.
 fn without_a(state: State) -> State
-    ensures { result ≡ without_images state 0 }
+    ensures { result ≡ dropped state None state.b }
 {
     let b = if state.b.is_some() {
         state.control.b
@@ -40,7 +41,7 @@ fn without_a(state: State) -> State
 
 // Nor has slot b.
 fn without_b(state: State) -> State
-    ensures { result ≡ without_images state 1 }
+    ensures { result ≡ dropped state state.a None }
 {
     let a = if state.a.is_some() {
         state.control.a
@@ -58,16 +59,19 @@ fn without_b(state: State) -> State
     }
 }
 
-// A slot has no images any more; any but 0 is b.
+// A slot has no images any more, and its physical partitions hold nothing that counts; any but 0
+// is b.
 fn without_images(alloc: Global, state: &State, slot: usize) -> Result<State, NoMemory>
     ensures { IfOk result (λ s. s ≡ without_images state.now slot) }
 {
+    let physical = all_blank(alloc, slot, state.physical.as_slice())?;
     let copy = state.copy(alloc)?;
-    if slot == 0 {
-        Ok(without_a(copy))
+    let left = if slot == 0 {
+        without_a(copy)
     } else {
-        Ok(without_b(copy))
-    }
+        without_b(copy)
+    };
+    Ok(State { physical, ..left })
 }
 
 // The update from this source is dropped.

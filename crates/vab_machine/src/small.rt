@@ -2,10 +2,11 @@
 
 ghost use Rattle.std.specs.Prelude.{◌↔◌, ◌≤◌, ◌^◌, IsTrue, length};
 ghost use Rattle.vab_machine.specs.Small.{AreSmallImages, IsSmallSlot, IsSmallImage, IsSmallEntry};
-ghost use Rattle.vab_machine.specs.Small.{IsSmallPlan, IsSmallPhase, IsSmallOverlay, IsSmall};
+ghost use Rattle.vab_machine.specs.Small.{IsSmallPlan, IsSmallPhase, IsSmallOverlay};
+ghost use Rattle.vab_machine.specs.Small.{AreSmallPhysical, IsSmall};
 
 use vab_bytes::Listing;
-use vab_model::{Image, Overlay, Phase, PlanEntry, PlanImage, State};
+use vab_model::{Image, Overlay, Phase, Physical, PlanEntry, PlanImage, State};
 use vab_names::MAX_PARTITIONS;
 
 /// The most blocks of a store, the most exceptions, and the most blocks written over a
@@ -86,14 +87,22 @@ fn is_small_overlay(overlay: &Option<Overlay>) -> bool
     }
 }
 
+fn are_small_physical(physical: &[Physical]) -> bool
+    ensures { IsTrue result ↔ AreSmallPhysical physical.now }
+{
+    physical.len() <= MAX_PARTITIONS && physical.iter().all(|partition| partition.blocks <= 1 << 28)
+}
+
 /// Whether a state is small enough for `step`, as the states of devices are: at most 64 images of
-/// 2^40 bytes each in a slot, a plan of 64 partitions of 2^28 blocks each, stores of 2^55 blocks,
-/// and an overlay of 2^40 bytes with 2^55 blocks written.
+/// 2^40 bytes each in a slot, at most 64 physical partitions of 2^28 blocks each, a plan of 64
+/// partitions of 2^28 blocks each, stores of 2^55 blocks, and an overlay of 2^40 bytes with 2^55
+/// blocks written.
 pub fn is_small(state: &State) -> bool
     ensures { IsTrue result ↔ IsSmall state.now }
 {
     is_small_slot(&state.a)
         && is_small_slot(&state.b)
+        && are_small_physical(state.physical.as_slice())
         && is_small_phase(&state.phase)
         && is_small_overlay(&state.overlay)
 }

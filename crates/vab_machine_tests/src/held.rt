@@ -179,6 +179,7 @@ pub(crate) fn state_of(alloc: Global, d: &mut MemPort, device: &Device) -> Resul
         control,
         a: images(alloc, d, &device.a)?,
         b: images(alloc, d, &device.b)?,
+        physical: Listing::from_vec(Vec::new(alloc)),
         phase: phase(alloc, d, device)?,
         overlay: overlay(alloc, d, &device.overlay)?,
     })

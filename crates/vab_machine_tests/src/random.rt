@@ -249,6 +249,8 @@ fn kind(command: &Command) -> usize {
         Command::Overlay(_, _) => 17,
         Command::OverlayWrite(_) => 18,
         Command::OverlayDiscard => 19,
+        // Of a device without physical partitions it is never done.
+        Command::Keep(_) => 20,
     }
 }
 

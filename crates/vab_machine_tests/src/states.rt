@@ -6,7 +6,8 @@ use vab_bootctl::{Control, Info};
 use vab_bytes::{Bytes, Listing, Name36};
 use vab_machine::{is_small, step};
 use vab_model::{
-    Command, GroupLimit, Image, Overlay, Phase, Plan, PlanEntry, PlanImage, Refusal, Reply, State,
+    Command, GroupLimit, Image, Overlay, Phase, Physical, Plan, PlanEntry, PlanImage, Refusal,
+    Reply, State,
 };
 use vab_space::Chunk;
 
@@ -67,6 +68,7 @@ fn device(alloc: Global) -> Result<State, Fail> {
         },
         a: Some(Listing::from_vec(images)),
         b: None,
+        physical: Listing::from_vec(Vec::new(alloc)),
         phase: Phase::Idle,
         overlay: None,
     })
@@ -222,6 +224,78 @@ fn many(alloc: Global, count: u32, byte: u8) -> Result<Vec<u8>, Fail> {
         bytes.push(byte)?;
     }
     Ok(bytes)
+}
+
+// A physical partition of a block, of which slot a holds bytes of this one.
+fn physical(alloc: Global, base: &[u8], byte: u8) -> Result<Physical, Fail> {
+    Ok(Physical {
+        name: name(base)?,
+        blocks: 1,
+        a: Some(Bytes::from_vec(many(alloc, 4096, byte)?)),
+        b: None,
+    })
+}
+
+// The first byte of what slot b's physical partition holds.
+fn held(state: &State, at: usize) -> Option<u8> {
+    let partition = state.physical.as_slice().get(at)?;
+    let bytes = partition.b.as_ref()?;
+    bytes.as_slice().first().copied()
+}
+
+#[test]
+fn physical_partitions_are_kept_and_flashed(rt: HostRuntime) -> Result<(), Fail> {
+    let alloc = rt.alloc();
+    let mut state = device(alloc)?;
+    let mut partitions = Vec::new(alloc);
+    partitions
+        .push(physical(alloc, b"boot", 7)?)
+        .ok()
+        .ok_or("there is memory")?;
+    partitions
+        .push(physical(alloc, b"vbmeta", 8)?)
+        .ok()
+        .ok_or("there is memory")?;
+    state.physical = Listing::from_vec(partitions);
+    for (command, want) in [
+        (Command::Begin, Reply::Done),
+        (
+            Command::Finish,
+            Reply::Refused(Refusal::Incomplete(name(b"boot")?)),
+        ),
+        (Command::Keep(b"boot_b"), Reply::Done),
+        (Command::Keep(b"boot_b"), Reply::Refused(Refusal::Written)),
+        (
+            Command::Keep(b"system_b"),
+            Reply::Refused(Refusal::NotPhysical),
+        ),
+        (
+            Command::Resize(b"boot_b", 0),
+            Reply::Refused(Refusal::Physical),
+        ),
+        (
+            Command::Create(b"boot_b", 0),
+            Reply::Refused(Refusal::Exists),
+        ),
+    ] {
+        let (next, reply) = after(alloc, &state, &command)?;
+        assert!(rt; reply == want, "{command:?}");
+        state = next;
+    }
+    if !is_small(&state) {
+        return Err("a state is small".into());
+    }
+    let flash = Command::Flash(b"vbmeta_b", Chunk::One);
+    let (state, reply) = step(alloc, &state, &flash, Some(b"\x09".as_slice()))?;
+    assert!(rt; reply == Reply::Done);
+    let (state, reply) = after(alloc, &state, &Command::Finish)?;
+    assert!(rt; reply == Reply::Done);
+    assert!(rt; held(&state, 0) == Some(7));
+    assert!(rt; held(&state, 1) == Some(9));
+    let (state, reply) = after(alloc, &state, &Command::Cancel)?;
+    assert!(rt; reply == Reply::Done);
+    assert!(rt; held(&state, 0) == None);
+    Ok(())
 }
 
 // The state with bytes of this one written over block 1.

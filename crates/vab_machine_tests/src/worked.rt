@@ -228,7 +228,7 @@ const LIFE: [Case; 30] = [
 ];
 
 // Of the same device, in a factory install.
-const FACTORY: [Case; 28] = [
+const FACTORY: [Case; 30] = [
     (Command::Factory, NOTHING, DONE),
     (Command::Factory, NOTHING, Want::Refused(Refusal::NotIdle)),
     (Command::Begin, NOTHING, Want::Refused(Refusal::NotIdle)),
@@ -251,6 +251,16 @@ const FACTORY: [Case; 28] = [
         Want::Refused(Refusal::InPlace),
     ),
     (Command::Finish, NOTHING, Want::Incomplete(b"x")),
+    (
+        Command::Keep(b"x_b"),
+        NOTHING,
+        Want::Refused(Refusal::NotPhysical),
+    ),
+    (
+        Command::Keep(b"boot_b"),
+        NOTHING,
+        Want::Refused(Refusal::Unknown),
+    ),
     (
         Command::Flash(b"x_b", Chunk::Two),
         NOTHING,

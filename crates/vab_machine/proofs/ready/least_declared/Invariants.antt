@@ -1,7 +1,7 @@
-use Rattle.std.proofs.Common.{◌≡◌, drop, None}
+use Rattle.std.proofs.Common.{◌≡◌, drop}
 use Rattle.vab_model.specs.Machine.{least_declared}
 use Rattle.vab_machine.proofs.ready.least_declared.Given as goal
 
 abbrev pub invariant-loop-entry : goal.invariant-loop-entry
 invariant-loop-entry l =
-    least_declared l.least (drop l.entry-index l.plan) ≡ least_declared None l.plan
+    least_declared l.least (drop l.entry-index l.plan) ≡ least_declared l.fn.name l.plan
