@@ -1,7 +1,7 @@
 -- A command that first writes what leaves the meaning of the disk, in each outcome.
 use Rattle.std.proofs.Common.{◌≡◌, ◌≢◌, ◌∙◌, inl, inr, ℕ, List, [], ◌∷◌, Result, Ok, Err, refl, sym}
 use Rattle.std.proofs.Common.{subst, true, false}
-use Rattle.std.specs.Prelude.{Bool, ◌&&◌, Option, IfOk, OnOk, OnErr}
+use Rattle.std.specs.Prelude.{Bool, ◌&&◌, Option, IfOk, OnErr}
 use Rattle.std.proofs.lemmas.Bool.{cases_Bool}
 use Rattle.vab_disk.specs.declared.disk.Disk.{Ghosts}
 use Rattle.vab_disk.specs.Disk.{Outcome, Adds, DiskFailed}

@@ -4,7 +4,7 @@ use Rattle.std.proofs.Common.{refl, sym, ap, subst}
 use Rattle.std.specs.Prelude.{Bool, false, Option, IfOk, OnOk, OnErr}
 use Rattle.vab_disk.specs.declared.disk.Disk.{Ghosts}
 use Rattle.vab_disk.specs.Disk.{Image, Outcome, Adds, LeavesEither, IsAt, DiskFailed}
-use Rattle.vab_disk.specs.Disk.{set_sector, NoFewer}
+use Rattle.vab_disk.specs.Disk.{set_sector}
 use Rattle.vab_disk.specs.Calls.{IsAtRest, IsQuiet, OnlyReads, SameBut, Touches}
 use Rattle.vab_disk.proofs.Moments.{adds_wider, adds_on}
 use Rattle.vab_disk.proofs.CallLaws.{touches_wider, touches_reads, touches_then, touches_on}

@@ -1,6 +1,6 @@
 -- A flash by blocks is the machine's row.
 use Rattle.std.proofs.Common.{◌≡◌, ◌∙◌, ℕ, ◌*◌, ◌≤◌, Bool, true, false, List}
-use Rattle.std.proofs.Common.{length, Option, Some, None, inl, inr, refl, sym, ap}
+use Rattle.std.proofs.Common.{length, Option, Some, None, inl, inr, refl, sym, ap, cond}
 use Rattle.std.specs.Prelude.{nat_le, not, if◌then◌else◌}
 use Rattle.std.proofs.lemmas.Bool.{cases_Bool, cases_lt, lt-ltb, le-ltb, le-leb, lt-leb}
 use Rattle.vab_names.specs.Names.{is_full, base_of}
@@ -21,8 +21,11 @@ use Rattle.vab_model.specs.Staged.{is_sparse, filled, differences}
 use Rattle.vab_model.specs.Machine.{unless, if_installing, if_planned, is_written, with_image}
 use Rattle.vab_model.specs.Machine.{if_stored, in_store, in_place, flash_staged, flash_unwritten}
 use Rattle.vab_model.specs.Machine.{flash_entry, flash_row, machine_effect, planned}
+use Rattle.vab_model.specs.Machine.{flash_physical}
+use Rattle.vab_model.specs.Physical.{is_physical, physical_named}
 use Rattle.vab_device.specs.Mounted.{Mounted, in_state}
 use Rattle.vab_device.specs.Flashed.{flash_effect, entry_effect, placed_effect, unwritten_effect}
+use Rattle.vab_device.specs.Flashed.{named_effect}
 use Rattle.vab_device.specs.Flashed.{staged_effect, if_room, flashed, source_bytes}
 use Rattle.vab_device.specs.Flashed.{differences as differences_of}
 use Rattle.vab_device.specs.Flashed.{in_store as in_store_of, in_place as in_place_of}
@@ -135,6 +138,20 @@ module _ (m : Mounted) where
   entry_same source plan k staged None = refl
   entry_same source plan k staged (Some e) = placed_same source plan e k staged e.store
 
+  named_same : (source : ℕ) (plan : Plan) (k : Chunk) (staged : Option (List ℕ)) (base : List ℕ)
+      → there
+      (cond (is_physical base m.state.physical)
+      (flash_physical m.state staged (other_slot source)
+      (physical_named base m.state.physical))
+      (if_planned (entry_named base plan.entries)
+      (λ e. flash_entry m.state source plan staged e k e.store)))
+      ≡ named_effect m source plan k staged base
+  named_same source plan k staged base =
+      elim (cases_Bool (is_physical base m.state.physical)) [
+        | inl t ↦ rw t refl
+        | inr f ↦ rw f (entry_same source plan k staged (entry_named base plan.entries))
+      ]
+
   flash_same : (staged : Option (List ℕ)) (name : List ℕ) (k : Chunk) (phase : Phase)
       → there (if_installing phase (flash_row m.state staged name k))
       ≡ flash_effect m staged name k phase
@@ -142,7 +159,7 @@ module _ (m : Mounted) where
   flash_same staged name k (Installing source plan) =
       elim (cases_Bool (is_full (other_slot source) name)) [
         | inl t ↦
-            rw t (entry_same source plan k staged (entry_named (base_of name) plan.entries))
+            rw t (named_same source plan k staged (base_of name))
         | inr f ↦ rw f refl
       ]
   flash_same staged name k (Staged source left) = refl

@@ -1,13 +1,13 @@
 -- A partition that is written in place reads as its blocks.
-use Rattle.std.proofs.Common.{◌≡◌, ◌∙◌, ℕ, ◌+◌, List, [], ◌∷◌, refl, sym, ap, subst}
-use Rattle.std.specs.Prelude.{Option, Some, None}
+use Rattle.std.proofs.Common.{◌≡◌, ◌∙◌, ℕ, ◌+◌, List, [], ◌∷◌, refl, ap, subst}
+use Rattle.std.specs.Prelude.{Option, None}
 use Rattle.vab_exceptions.specs.declared.area.Exception.{Exception}
 use Rattle.vab_space.specs.declared.Chunk.{Chunk}
 use Rattle.vab_space.specs.declared.Chunk.TheVariants.{One, Two, Four}
 use Rattle.vab_store.specs.View.{stored_at}
 use Rattle.vab_device.specs.declared.device.Part.{Part}
 use Rattle.vab_device.specs.declared.device.PartImage.{PartImage}
-use Rattle.vab_device.specs.declared.device.PartImage.TheVariants.{Kept, Declared, Written}
+use Rattle.vab_device.specs.declared.device.PartImage.TheVariants.{Written}
 use Rattle.vab_device.specs.Kept.{IsPart, IsStored}
 use Rattle.vab_device.specs.Mounted.{blocks_there, sectors_by, sectors_read}
 use Rattle.vab_device.specs.Stores.{sector_seen, sectors_seen}

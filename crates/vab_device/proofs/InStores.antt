@@ -1,5 +1,5 @@
 -- What is read of the stores lies in their blocks.
-use Rattle.std.proofs.Common.{◌≡◌, inl, inr, ◌⊎◌, ⊎_elim, ℕ, zero, suc, ◌+◌, ◌/◌, ◌<◌, ◌≤◌, List}
+use Rattle.std.proofs.Common.{◌≡◌, inl, inr, ◌⊎◌, ⊎_elim, ℕ, zero, suc, ◌+◌, ◌/◌, ◌<◌, List}
 use Rattle.std.proofs.Common.{[], ◌∷◌, length, slice_index, Result, Ok, Err, refl, sym}
 use Rattle.std.proofs.Common.{subst, arith}
 use Rattle.std.specs.Prelude.{◌&&◌, Option, Some, None}
@@ -9,7 +9,7 @@ use Rattle.vab_exceptions.specs.declared.area.Exception.{Exception}
 use Rattle.vab_space.specs.declared.Chunk.{Chunk}
 use Rattle.vab_space.specs.Chunks.{page_block, page_entries}
 use Rattle.vab_space.proofs.ChunkLaws.{page_inside, chunks_fewer}
-use Rattle.vab_store.specs.Reached.{IsOfPage, IsReached}
+use Rattle.vab_store.specs.Reached.{IsReached}
 use Rattle.vab_store.specs.Scan.{scan_of}
 use Rattle.vab_store.specs.View.{Fits}
 use Rattle.vab_store.proofs.ReachedLaws.{scan_kept}

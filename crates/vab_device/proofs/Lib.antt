@@ -14,6 +14,7 @@ pub mod OpeningLaws
 pub mod ReadingLaws
 pub mod RepairLaws
 pub mod SameLaws
+pub mod HeldLaws
 pub mod StayLaws
 pub mod Steps
 pub mod StoreLaws

@@ -3,7 +3,7 @@ use Rattle.std.proofs.Common.{◌≡◌, ◌∙◌, inl, inr, ℕ, zero, suc, �
 use Rattle.std.proofs.Common.{ap, sym}
 use Rattle.std.proofs.Common.{subst}
 use Rattle.std.specs.Prelude.{Bool, true, false, not, ◌&&◌, ◌||◌, IsTrue, nat_lt, slice_index}
-use Rattle.std.specs.Prelude.{Option, Some, None, ok_or}
+use Rattle.std.specs.Prelude.{Option, Some, None, ok_or, option_map, ◌==◌}
 use Rattle.std.proofs.lemmas.Bool.{cases_Bool, and_parts, ltb-true}
 use Rattle.vab_bytes.specs.Number.{field}
 use Rattle.vab_marks.specs.declared.mark.MarkPhase.{MarkPhase}
@@ -11,7 +11,7 @@ use Rattle.vab_marks.specs.declared.mark.MarkPhase.TheVariants as marks
 use Rattle.vab_marks.specs.declared.mark.UpdateMark.{UpdateMark}
 use Rattle.vab_marks.specs.declared.sector.MarkFault.{MarkFault}
 use Rattle.vab_marks.specs.declared.sector.MarkFault.TheVariants.{BadField}
-use Rattle.vab_marks.specs.Mark.{mark_magic, mark_fields, mark_of, mark_by}
+use Rattle.vab_marks.specs.Mark.{mark_magic, mark_fields, mark_of, mark_by, with_physical}
 use Rattle.vab_marks.specs.Mark.{may_stand_apart, is_idle, FlagsFit, rephased, resloted}
 use Rattle.vab_marks.specs.Version.{is_version}
 use Rattle.vab_marks.specs.Sector.{are_zeros, head_fault}
@@ -41,22 +41,59 @@ slot_of slot (suc (suc (suc (suc (suc (suc (suc zero))))))) m is =
     ap (λ (x : UpdateMark). x.slot) (taken slot _ m is)
 slot_of slot (suc (suc (suc (suc (suc (suc (suc (suc n)))))))) m is = absurd cc
 
-fields_slot : (bytes : List ℕ) (m : UpdateMark) → mark_fields bytes ≡ Ok m → m.slot < 2
-fields_slot bytes m is =
-    elim (cases_Bool (nat_lt (slice_index bytes 6) 2 && are_zeros (field bytes 7 501))) [
+-- the flag of physical partitions is the only thing that is added to the mark of a byte
+added : (p : Bool) (o : Option UpdateMark) (m : UpdateMark)
+    → ok_or (option_map (with_physical p) o) BadField ≡ Ok m
+    → (k : UpdateMark)
+    × (ok_or o BadField ≡ Ok k)
+    × (with_physical p k ≡ m)
+added p None m is = absurd cc
+added p (Some k) m is = (k, refl, cc)
+
+-- that byte, and the flag
+flagged : List ℕ → Bool
+flagged bytes = nat_lt (slice_index bytes 7) 2 && are_zeros (field bytes 8 500)
+
+-- what the fields of a mark say is the mark of its byte, and the flag
+record AreFields (bytes : List ℕ) (m : UpdateMark) : Type 0 where
+  low : slice_index bytes 6 < 2
+  plain : UpdateMark
+  is : ok_or (mark_by (slice_index bytes 6) (slice_index bytes 5)) BadField ≡ Ok plain
+  same : with_physical (slice_index bytes 7 == 1) plain ≡ m
+
+fields_are : (bytes : List ℕ) (m : UpdateMark) → mark_fields bytes ≡ Ok m → AreFields bytes m
+unfolding flagged
+fields_are bytes m is =
+    elim (cases_Bool (nat_lt (slice_index bytes 6) 2 && flagged bytes)) [
       | inl both ↦
-          let taken : ok_or (mark_by (slice_index bytes 6) (slice_index bytes 5)) BadField ≡ Ok m =
+          let taken : ok_or
+          (option_map (with_physical (slice_index bytes 7 == 1))
+          (mark_by (slice_index bytes 6) (slice_index bytes 5)))
+          BadField
+          ≡ Ok m =
           rw both at is in
-          let parts = and_parts (nat_lt (slice_index bytes 6) 2) (are_zeros (field bytes 7 501))
-          both in
-          subst (λ (n : ℕ). n < 2)
-          (sym (slot_of (slice_index bytes 6) (slice_index bytes 5) m taken))
-          (ltb-true (slice_index bytes 6) 2 parts.0)
+          let parts = and_parts (nat_lt (slice_index bytes 6) 2) (flagged bytes) both in
+          let a = added (slice_index bytes 7 == 1)
+          (mark_by (slice_index bytes 6) (slice_index bytes 5)) m taken in
+          record {
+            low = ltb-true (slice_index bytes 6) 2 parts.0;
+            plain = a.0;
+            is = a.1;
+            same = a.2;
+          }
       | inr not ↦
           let bad : (let x : Result UpdateMark MarkFault = Err BadField in x ≡ Ok m) =
           rw not at is in
           absurd cc
     ]
+
+fields_slot : (bytes : List ℕ) (m : UpdateMark) → mark_fields bytes ≡ Ok m → m.slot < 2
+fields_slot bytes m is =
+    let f = fields_are bytes m is in
+    subst (λ (n : ℕ). n < 2)
+    (sym (slot_of (slice_index bytes 6) (slice_index bytes 5) f.plain f.is)
+    ∙ ap (λ (x : UpdateMark). x.slot) f.same)
+    f.low
 
 pub mark_slot : (bytes : List ℕ) (m : UpdateMark) → mark_of bytes ≡ Ok m → m.slot < 2
 unfolding mark_of
@@ -92,16 +129,8 @@ flags_of slot (suc (suc (suc (suc (suc (suc (suc (suc n)))))))) m is = absurd cc
 
 fields_flags : (bytes : List ℕ) (m : UpdateMark) → mark_fields bytes ≡ Ok m → FlagsFit m
 fields_flags bytes m is =
-    elim (cases_Bool (nat_lt (slice_index bytes 6) 2 && are_zeros (field bytes 7 501))) [
-      | inl both ↦
-          let read : ok_or (mark_by (slice_index bytes 6) (slice_index bytes 5)) BadField ≡ Ok m =
-          rw both at is in
-          flags_of (slice_index bytes 6) (slice_index bytes 5) m read
-      | inr not ↦
-          let bad : (let x : Result UpdateMark MarkFault = Err BadField in x ≡ Ok m) =
-          rw not at is in
-          absurd cc
-    ]
+    let f = fields_are bytes m is in
+    subst FlagsFit f.same (flags_of (slice_index bytes 6) (slice_index bytes 5) f.plain f.is)
 
 -- nor has one that is read
 pub mark_flags : (bytes : List ℕ) (m : UpdateMark) → mark_of bytes ≡ Ok m → FlagsFit m

@@ -12,8 +12,6 @@ use Rattle.vab_names.specs.Names.{most_partitions}
 use Rattle.vab_tables.specs.declared.table.Table.{Table}
 use Rattle.vab_layout.specs.Layout.{layout_of}
 use Rattle.vab_layout.specs.Slots.{other_slot, own_parts, twins_by}
-use Rattle.vab_partitions.specs.Rules.{bad_part}
-use Rattle.vab_partitions.specs.MergingRules.{bad_merging_of}
 use Rattle.vab_partitions.proofs.MostLaws.{more_partitions, more_target, more_merging}
 use Rattle.vab_device.specs.declared.fault.StartFault.TheVariants.{BadTable}
 use Rattle.vab_device.specs.Checks.{Check, check, names_none, or_else, first_fault}

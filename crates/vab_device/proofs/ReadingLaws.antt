@@ -19,12 +19,12 @@ use Rattle.vab_model.proofs.SeenLaws.{seen_again}
 use Rattle.vab_device.specs.declared.fault.StartFault.{StartFault}
 use Rattle.vab_device.specs.declared.fault.StartFault.TheVariants.{TooSmall, BadMark, BadState}
 use Rattle.vab_marks.specs.declared.sector.MarkFault.{MarkFault}
-use Rattle.vab_marks.specs.Mark.{mark_of, FlagsFit, rephased, may_stand_apart, is_idle}
+use Rattle.vab_marks.specs.Mark.{mark_of, FlagsFit, may_stand_apart, is_idle}
 use Rattle.vab_model.specs.declared.state.Phase.TheVariants as phases
 use Rattle.vab_device.specs.declared.device.Device.{Device}
 use Rattle.vab_device.specs.Checks.{Check, check, or_else, first_fault, ◌>>=◌}
 use Rattle.vab_device.specs.Mounted.{Mounted, control_on, state_on, mounted_on, images_on}
-use Rattle.vab_device.specs.Mounted.{entries_on, phase_by, phase_on, unplanned, count_at}
+use Rattle.vab_device.specs.Mounted.{entries_on, phase_by, phase_on, count_at}
 use Rattle.vab_device.specs.Stores.{Scanned, scans_in}
 use Rattle.vab_device.specs.Kept.{IsPhase, has_both, has_slot}
 use Rattle.vab_device.specs.Phases.{Phase, slot_checks, staged_checks, idle, installing}
@@ -36,8 +36,9 @@ use Rattle.vab_device.specs.Reading.{table_at, tables_in, framed, frame, part_fa
 use Rattle.vab_device.specs.Reading.{judged, stated, table_for, parts_for, kept, device}
 use Rattle.vab_device.specs.Reading.{Reads, Represents, SameRead, control_kept}
 use Rattle.vab_device.proofs.CheckLaws.{bound, passed}
-use Rattle.vab_device.proofs.MarkLaws.{mark_slot, rephased_fits, mark_flags}
+use Rattle.vab_device.proofs.MarkLaws.{mark_slot, mark_flags}
 use Rattle.vab_device.proofs.MostLaws.{parts_more}
+use Rattle.vab_device.proofs.StayLaws.{bare_read}
 use Rattle.vab_device.specs.Mounted.{overlay_on}
 
 -- ---- where it is read it means so
@@ -404,29 +405,53 @@ known_by marks.Staged = inr (inr (inl refl))
 known_by marks.Merging = inr (inr (inr refl))
 known_by marks.Completed = inl refl
 
-known_of : (x : Result UpdateMark MarkFault) (r : UpdateMark) → mark_read x ≡ Ok r → IsPhase r.phase
-known_of (Ok m) r is =
-    let e : record m { phase = settled m.phase } ≡ r = cc in
-    subst (λ (x : UpdateMark). IsPhase x.phase) e (known_by m.phase)
-known_of (Err fault) r is =
+-- a mark that is read has no physical partitions
+record IsReadMark (x : Result UpdateMark MarkFault) (r : UpdateMark) : Type 0 where
+  there : UpdateMark
+  is : x ≡ Ok there
+  bare : there.physical ≡ false
+  same : record there { phase = settled there.phase } ≡ r
+
+mark_was : (x : Result UpdateMark MarkFault) (r : UpdateMark) → mark_read x ≡ Ok r → IsReadMark x r
+mark_was (Ok m) r is = by m.physical refl
+  where
+    by : (p : Bool) → m.physical ≡ p → IsReadMark (Ok m) r
+    by false bare =
+        let kept : Ok (record m { phase = settled m.phase }) ≡ Ok r = sym (bare_read m bare) ∙ is in
+        record { there = m; is = refl; bare = bare; same = cc }
+    by true some =
+        let none : (let x : Result UpdateMark StartFault = Err (BadMark 2048) in x ≡ Ok r) =
+        rw some at is in
+        absurd cc
+mark_was (Err fault) r is =
     absurd (let bad : (let x : Result UpdateMark StartFault = Err (BadMark 2048) in x ≡ Ok r) =
     is in cc)
+
+-- what is read of a mark that is there: it has no physical partitions
+pub read_from : (image : Image) (k m : UpdateMark)
+    → mark_in image ≡ Ok m
+    → mark_of (image 2048) ≡ Ok k
+    → (k.physical ≡ false) × (m ≡ record k { phase = settled k.phase })
+unfolding mark_in
+read_from image k m is there =
+    let w = mark_was (mark_of (image 2048)) m is in
+    let both : Ok w.there ≡ Ok k = sym w.is ∙ there in
+    let same : w.there ≡ k = cc in (
+      ap (λ (x : UpdateMark). x.physical) (sym same) ∙ w.bare,
+      sym w.same ∙ ap (λ (x : UpdateMark). record x { phase = settled x.phase }) same,
+    )
+
+pub bare_known : (image : Image) (m : UpdateMark) → mark_in image ≡ Ok m → m.physical ≡ false
+unfolding mark_in
+bare_known image m is =
+    let w = mark_was (mark_of (image 2048)) m is in
+    sym (ap (λ (x : UpdateMark). x.physical) w.same) ∙ w.bare
 
 pub known_phase : (image : Image) (m : UpdateMark) → mark_in image ≡ Ok m → IsPhase m.phase
 unfolding mark_in
-known_phase image m is = known_of (mark_of (image 2048)) m is
-
--- the slot of a mark that is read is a or b
-slot_read : (bytes : List ℕ) (x : Result UpdateMark MarkFault) (r : UpdateMark)
-    → mark_of bytes ≡ x
-    → mark_read x ≡ Ok r
-    → r.slot < 2
-slot_read bytes (Ok m) r of is =
-    let e : record m { phase = settled m.phase } ≡ r = cc in
-    subst (λ (x : UpdateMark). x.slot < 2) e (mark_slot bytes m of)
-slot_read bytes (Err fault) r of is =
-    absurd (let bad : (let x : Result UpdateMark StartFault = Err (BadMark 2048) in x ≡ Ok r) =
-    is in cc)
+known_phase image m is =
+    let w = mark_was (mark_of (image 2048)) m is in
+    subst (λ (x : UpdateMark). IsPhase x.phase) w.same (known_by w.there.phase)
 
 settled_flags : (p : MarkPhase) (apart overlaid : Bool)
     → IsTrue (may_stand_apart p || not apart) × IsTrue (is_idle p || not overlaid)
@@ -439,24 +464,20 @@ settled_flags marks.Merging apart overlaid fits = fits
 settled_flags marks.Completed apart overlaid fits = (fits.0, refl)
 
 -- a flag is on in the phases alone that have it
-flags_read : (bytes : List ℕ) (x : Result UpdateMark MarkFault) (r : UpdateMark)
-    → mark_of bytes ≡ x
-    → mark_read x ≡ Ok r
-    → FlagsFit r
-flags_read bytes (Ok m) r of is =
-    let e : record m { phase = settled m.phase } ≡ r = cc in
-    subst FlagsFit e (settled_flags m.phase m.apart m.overlaid (mark_flags bytes m of))
-flags_read bytes (Err fault) r of is =
-    absurd (let bad : (let x : Result UpdateMark StartFault = Err (BadMark 2048) in x ≡ Ok r) =
-    is in cc)
-
 pub flags_known : (image : Image) (m : UpdateMark) → mark_in image ≡ Ok m → FlagsFit m
 unfolding mark_in
-flags_known image m is = flags_read (image 2048) (mark_of (image 2048)) m refl is
+flags_known image m is =
+    let w = mark_was (mark_of (image 2048)) m is in
+    subst FlagsFit w.same
+    (settled_flags w.there.phase w.there.apart w.there.overlaid
+    (mark_flags (image 2048) w.there w.is))
 
+-- the slot of a mark that is read is a or b
 pub slot_below : (image : Image) (m : UpdateMark) → mark_in image ≡ Ok m → m.slot < 2
 unfolding mark_in
-slot_below image m is = slot_read (image 2048) (mark_of (image 2048)) m refl is
+slot_below image m is =
+    let w = mark_was (mark_of (image 2048)) m is in
+    subst (λ (x : UpdateMark). x.slot < 2) w.same (mark_slot (image 2048) w.there w.is)
 
 tables_two : (size : ℕ) (g : Geometry) (slot other : ℕ) (image : Image) (ts : List Table)
     → tables_in size g (slot ∷ other ∷ []) image ≡ Ok ts

@@ -1,35 +1,45 @@
 -- What stays of a disk as the phase changes.
 use Rattle.std.proofs.Common.{◌≡◌, ◌∙◌, inl, inr, ℕ, ◌+◌, ◌≤◌, List, [], ◌∷◌}
-use Rattle.std.proofs.Common.{length, take, Ok, refl, sym, ap, arith}
+use Rattle.std.proofs.Common.{length, take, Ok, sym, ap, arith, Bool, false, not}
 use Rattle.vab_disk.specs.Disk.{Image}
 use Rattle.vab_gate.proofs.Blocks.{sectors_same}
 use Rattle.vab_marks.specs.declared.mark.MarkPhase.{MarkPhase}
 use Rattle.vab_marks.specs.declared.mark.UpdateMark.{UpdateMark}
 use Rattle.vab_marks.specs.declared.version.MarkVersion.TheVariants.{Two}
-use Rattle.vab_marks.specs.Mark.{mark_of, mark_spelling, FlagsFit, rephased}
+use Rattle.vab_marks.specs.Mark.{mark_of, mark_spelling}
 use Rattle.vab_marks.specs.Version.{version_in}
 use Rattle.vab_marks.proofs.MarkLaws.{version_spelled}
 use Rattle.vab_geometry.specs.declared.geometry.Geometry.{Geometry}
 use Rattle.vab_lpstore.specs.Layout.{copy_sectors, primary_of, backup_of, primary_bytes}
 use Rattle.vab_lpstore.specs.Layout.{backup_bytes, BothHold}
 use Rattle.vab_tables.specs.declared.table.Table.{Table}
-use Rattle.vab_device.specs.Checks.{◌>>=◌}
+use Rattle.vab_device.specs.declared.fault.StartFault.TheVariants.{BadMark}
+use Rattle.vab_device.specs.Checks.{unless, ◌>>=◌}
 use Rattle.vab_device.specs.Reading.{settled, mark_read, mark_in, version_at, table_at, tables_in}
 use Rattle.vab_device.specs.Reading.{IsOfTables}
 use Rattle.vab_device.proofs.CheckLaws.{bound}
 
 -- ---- the mark
 
+-- a mark without physical partitions is read
+pub bare_read : (m : UpdateMark)
+    → m.physical ≡ false
+    → mark_read (Ok m) ≡ Ok (record m { phase = settled m.phase })
+bare_read m bare =
+    ap (λ (b : Bool). unless (not b) (BadMark 2048) (Ok (record m { phase = settled m.phase })))
+    bare
+
 pub mark_there : (m : UpdateMark) (image : Image)
     → settled m.phase ≡ m.phase
-    → FlagsFit m
+    → m.physical ≡ false
     → mark_of (mark_spelling m) ≡ Ok m
     → image 2048 ≡ mark_spelling m
     → mark_in image ≡ Ok m
 unfolding mark_in
-mark_there m image stays apart read same =
+mark_there m image stays bare read same =
     ap (λ (b : List ℕ). mark_read (mark_of b)) same
     ∙ ap mark_read read
+    ∙ bare_read m bare
     ∙ ap (λ (p : MarkPhase). Ok (record m { phase = p })) stays
 
 pub version_there : (m : UpdateMark) (image : Image)

@@ -1,7 +1,7 @@
 -- Memory may be refused in place of an edit's, a begin's or a flash's effect, where its reply is
 -- that it is done or that the table is full. No command of a verb takes memory. Of a wipe this says
 -- nothing.
-use Rattle.std.proofs.Common.{◌≡◌, ◌≢◌, ◌∙◌, ℕ, ◌+◌, ◌*◌, ◌^◌, Bool, true, false, cond, List, []}
+use Rattle.std.proofs.Common.{◌≡◌, ◌≢◌, ◌∙◌, ℕ, ◌+◌, ◌*◌, ◌^◌, Bool, true, false, cond, List}
 use Rattle.std.proofs.Common.{length, sym, Option, Result, Ok, Err, Some, None, refl, subst}
 use Rattle.std.specs.Prelude.{◌==◌, not, nat_lt, nat_le, is_some}
 use Rattle.vab_bootctl.specs.Boot.{info_at}
@@ -25,7 +25,7 @@ use Rattle.vab_model.specs.declared.command.Reply.TheVariants as replies
 use Rattle.vab_model.specs.Commands.{Command, SetActive, Boot, Mark, Print, Digest, Begin, Create}
 use Rattle.vab_model.specs.Commands.{Resize, Delete, Snapshot, Flash, Finish, Cancel, BeginMerge}
 use Rattle.vab_model.specs.Commands.{Merge, Factory, UpdateSuper, Overlay as OverlayOf}
-use Rattle.vab_model.specs.Commands.{OverlayWrite, OverlayDiscard}
+use Rattle.vab_model.specs.Commands.{OverlayWrite, OverlayDiscard, Keep}
 use Rattle.vab_model.specs.Effects.{Effect, refuses, does, active_effect, print_effect}
 use Rattle.vab_model.specs.Effects.{digest_effect, Found, Image_is, Refused_by, found_of}
 use Rattle.vab_model.specs.Effects.{effect_map, wanting, if_plain}
@@ -33,7 +33,7 @@ use Rattle.vab_model.specs.Overlay as over
 use Rattle.vab_model.specs.Overlay.{overlay_image, store_of_size, used_over, is_store_size}
 use Rattle.vab_model.specs.Overlay.{write_staged, write_row, discard_row, with_overlay}
 use Rattle.vab_model.specs.Over.{written_over}
-use Rattle.vab_model.specs.Plans.{blocks_in, bytes_named, images_of}
+use Rattle.vab_model.specs.Plans.{blocks_in, images_of}
 use Rattle.vab_model.specs.State.{image_named}
 use Rattle.vab_model.specs.declared.state.Image.{Image}
 use Rattle.vab_model.specs.declared.state.Overlay.{Overlay}
@@ -47,17 +47,20 @@ use Rattle.vab_bootctl.specs.declared.slots.Control.{Control}
 use Rattle.vab_bootctl.specs.Boot.{activated_of}
 use Rattle.vab_model.specs.Plans.{entry_named}
 use Rattle.vab_model.specs.Staged.{is_sparse}
-use Rattle.vab_model.specs.Machine.{least_declared}
+use Rattle.vab_model.specs.Machine.{least_missing}
+use Rattle.vab_model.specs.Physical.{is_physical, physical_named}
+use Rattle.vab_device.proofs.HeldLaws.{physical_makes, keep_makes}
+use Rattle.vab_model.specs.declared.state.Physical.{Physical}
 use Rattle.vab_device.specs.Mounted.{Mounted, in_state}
 use Rattle.vab_device.specs.Flashed.{staged_effect, unwritten_effect, placed_effect, entry_effect}
 use Rattle.vab_device.specs.Flashed.{flash_effect, in_store, in_place, if_room, flashed}
-use Rattle.vab_device.specs.Flashed.{differences, source_bytes}
+use Rattle.vab_device.specs.Flashed.{differences, source_bytes, named_effect, physical_effect}
 use Rattle.vab_device.specs.Updates.{table_effect, begun_effect, begin_effect, layout_at}
 use Rattle.vab_device.specs.Updates.{no_entries, EditOf, edited_effect, Guard, unless_kept}
 use Rattle.vab_device.specs.Updates.{edit_effect, no_guard, settled_guard, store_guard}
 use Rattle.vab_device.specs.Updates.{create_edit, resize_edit, delete_edit, snapshot_edit}
-use Rattle.vab_device.specs.Updates.{cancelled, cancel_effect, finish_effect, complete_effect}
-use Rattle.vab_device.specs.Updates.{begin_merge_effect, merging_from, merge_effect, effect_on}
+use Rattle.vab_device.specs.Updates.{cancel_effect, finish_effect, complete_effect}
+use Rattle.vab_device.specs.Updates.{begin_merge_effect, merge_effect, effect_on}
 use Rattle.vab_device.specs.Updates.{over_effect, over_table, overlay_begun}
 use Rattle.vab_device.proofs.FlashedLaws.{flash_by_blocks}
 
@@ -180,11 +183,14 @@ module _ (m : Mounted) where
       let image : Option Image = image_named (base_of name) (images_of m.state current) in
       let found : Effect Mounted =
       overlay_image m.state.cap (images_of m.state current) size next image in
+      let logical : Bool = not (is_physical (base_of name) m.state.physical) in
+      let named : Effect Mounted = over.unless logical refusals.Physical found in
       unless_told (is_full current name) refusals.BadName
-      (over.unless (is_store_size size) refusals.BadSize found)
-      (unless_told (is_store_size size) refusals.BadSize found
+      (over.unless (is_store_size size) refusals.BadSize named)
+      (unless_told (is_store_size size) refusals.BadSize named
+      (unless_told logical refusals.Physical found
       (over_image_told (images_of m.state current) size next
-      (over_table_told name current (layout_at m.places current)) image))
+      (over_table_told name current (layout_at m.places current)) image)))
   over_begins name size _ = refused refusals.NotIdle
 
   -- ---- an image
@@ -247,14 +253,26 @@ module _ (m : Mounted) where
   found source plan k staged None = refused refusals.Unknown
   found source plan k staged (Some e) = placed source plan e k staged e.store
 
+  -- nor does a physical partition
+  physical : (target : ℕ) (staged : Option (List ℕ)) (p : Option Physical)
+      → TellsWanted (physical_effect m target staged p)
+  physical = physical_makes m TellsWanted refused (λ ps wants. absurd cc)
+
   flashes : (staged : Option (List ℕ)) (name : List ℕ) (k : Chunk) (phase : Phase)
       → TellsWanted (flash_effect m staged name k phase)
   flashes staged name k (Installing source plan) =
-      let e : Option PlanEntry = entry_named (base_of name) plan.entries in
-      either (is_full (other_slot source) name)
-      (entry_effect m source plan k staged e)
+      let base : List ℕ = base_of name in
+      let target : ℕ = other_slot source in
+      let p : Option Physical = physical_named base m.state.physical in
+      let e : Option PlanEntry = entry_named base plan.entries in
+      either (is_full target name)
+      (named_effect m source plan k staged base)
       (refuses refusals.BadName)
-      (found source plan k staged e)
+      (either (is_physical base m.state.physical)
+      (physical_effect m target staged p)
+      (entry_effect m source plan k staged e)
+      (physical target staged p)
+      (found source plan k staged e))
       (refused refusals.BadName)
   flashes staged name k _ = refused refusals.NotInstalling
 
@@ -335,7 +353,7 @@ module _ (m : Mounted) where
   completes source plan (Some name) = refl
 
   finishes : (phase : Phase) → WantsNothing (finish_effect m phase)
-  finishes (Installing source plan) = completes source plan (least_declared None plan.entries)
+  finishes (Installing source plan) = completes source plan (least_missing m.state source plan)
   finishes _ = refl
 
   merge_begins : (phase : Phase) → WantsNothing (begin_merge_effect m phase)
@@ -394,6 +412,8 @@ module _ (m : Mounted) where
   wants_told staged (Flash name k) other =
       subst TellsWanted (sym (flash_by_blocks m staged name k))
       (flashes staged name k m.state.phase)
+  wants_told staged (Keep name) other =
+      keep_makes m TellsWanted refused (λ ps wants. absurd cc) staged name
   wants_told staged Finish other =
       nothing_told (finish_effect m m.state.phase) (finishes m.state.phase)
   wants_told staged (SetActive n) other = verb_told staged (SetActive n) refl

@@ -16,13 +16,16 @@ use Rattle.vab_model.specs.declared.state.PlanEntry.{PlanEntry}
 use Rattle.vab_model.specs.declared.state.Plan.{Plan}
 use Rattle.vab_model.specs.declared.state.Phase.{Phase}
 use Rattle.vab_model.specs.declared.state.Phase.TheVariants.{Installing}
+use Rattle.vab_model.specs.declared.state.Physical.{Physical}
 use Rattle.vab_model.specs.declared.state.State.{State}
 use Rattle.vab_model.specs.declared.command.Refusal.TheVariants as refusals
 use Rattle.vab_model.specs.declared.command.Reply.TheVariants as replies
-use Rattle.vab_model.specs.Effects.{Effect, refuses, does, wanting}
+use Rattle.vab_model.specs.Effects.{Effect, refuses, does, wanting, effect_map}
+use Rattle.vab_model.specs.Machine.{flash_physical}
+use Rattle.vab_model.specs.Physical.{is_physical, physical_named}
 use Rattle.vab_model.specs.Plans.{entry_named, bytes_named, images_of, with_entries}
 use Rattle.vab_model.specs.Staged.{is_sparse}
-use Rattle.vab_device.specs.Mounted.{Mounted}
+use Rattle.vab_device.specs.Mounted.{Mounted, in_state}
 
 -- the bytes of a source's image of this base name; none where there is no such image
 abbrev pub source_bytes : State → (source : ℕ) → List ℕ → List ℕ
@@ -111,11 +114,25 @@ abbrev pub entry_effect : Mounted → (source : ℕ) → Plan → Chunk → Opti
 entry_effect m source plan k staged None = refuses refusals.Unknown
 entry_effect m source plan k staged (Some e) = placed_effect m source plan e k staged e.store
 
+-- the staged bytes become what a physical partition of the target holds
+abbrev pub physical_effect : Mounted → (target : ℕ) → Option (List ℕ) → Option Physical
+    → Effect Mounted
+physical_effect m target staged p =
+    effect_map (in_state m) (flash_physical m.state staged target p)
+
+-- of the target's partition of this base name, a physical one or one of the plan
+abbrev pub named_effect : Mounted → (source : ℕ) → Plan → Chunk → Option (List ℕ) → List ℕ
+    → Effect Mounted
+named_effect m source plan k staged base =
+    if is_physical base m.state.physical
+    then physical_effect m (other_slot source) staged (physical_named base m.state.physical)
+    else entry_effect m source plan k staged (entry_named base plan.entries)
+
 -- the staged bytes become the image of a partition, in a store whose chunks have this size, or,
 -- where the target stands apart, in place
 abbrev pub flash_effect : Mounted → Option (List ℕ) → List ℕ → Chunk → Phase → Effect Mounted
 flash_effect m staged name k (Installing source plan) =
     if is_full (other_slot source) name
-    then entry_effect m source plan k staged (entry_named (base_of name) plan.entries)
+    then named_effect m source plan k staged (base_of name)
     else refuses refusals.BadName
 flash_effect m staged name k _ = refuses refusals.NotInstalling

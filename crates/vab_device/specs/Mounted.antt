@@ -179,6 +179,7 @@ state_on d image = record {
   control = control_on d;
   a = images_on image d.a;
   b = images_on image d.b;
+  physical = [];
   phase = phase_on d image;
   overlay = overlay_on image d.overlay;
 }

@@ -1,5 +1,5 @@
 -- What a whole disk means: a device with its images, or the first thing that is wrong.
-use Rattle.std.specs.Prelude.{◌≡◌, ◌⊎◌, ℕ, ◌+◌, ◌≤◌, ◌==◌, Bool, true, false, nat_le}
+use Rattle.std.specs.Prelude.{◌≡◌, ◌⊎◌, ℕ, ◌+◌, ◌≤◌, ◌==◌, Bool, true, false, not, nat_le}
 use Rattle.std.specs.Prelude.{if◌then◌else◌}
 use Rattle.std.specs.Prelude.{List, [], ◌∷◌, length, Option, Some, None, Result, Ok, Err}
 use Rattle.vab_disk.specs.Disk.{Image}
@@ -61,8 +61,10 @@ abbrev pub settled : MarkPhase → MarkPhase
 settled marks.Completed = marks.Idle
 settled phase = phase
 
+-- No device has physical partitions yet: a mark that says that there are some is none.
 abbrev pub mark_read : Result UpdateMark MarkFault → Result UpdateMark StartFault
-mark_read (Ok m) = Ok (record m { phase = settled m.phase })
+mark_read (Ok m) =
+    unless (not m.physical) (BadMark 2048) (Ok (record m { phase = settled m.phase }))
 mark_read (Err fault) = Err (BadMark 2048)
 
 -- the update mark, in sector 2048

@@ -34,10 +34,10 @@ use Rattle.vab_model.specs.declared.command.Reply.TheVariants as replies
 use Rattle.vab_model.specs.Commands.{Command, SetActive, Boot, Mark, Print, Digest, Begin, Create}
 use Rattle.vab_model.specs.Commands.{Resize, Delete, Snapshot, Flash, Finish, Cancel, BeginMerge}
 use Rattle.vab_model.specs.Commands.{Merge, Factory, UpdateSuper, Overlay, OverlayWrite}
-use Rattle.vab_model.specs.Commands.{OverlayDiscard}
+use Rattle.vab_model.specs.Commands.{OverlayDiscard, Keep}
 use Rattle.vab_model.specs.Effects.{Effect, refuses, does, wanting, effect_map, if_plain}
 use Rattle.vab_model.specs.Plans.{entry_named, images_of, with_entries}
-use Rattle.vab_model.specs.Machine.{is_settled, least_declared, if_complete}
+use Rattle.vab_model.specs.Machine.{is_settled, least_missing, if_complete}
 use Rattle.vab_model.specs.Machine.{final_image as image_of}
 use Rattle.vab_model.specs.Machine.{finished as finished_state, cancelled as cancelled_state}
 use Rattle.vab_model.specs.Machine.{merging_from as merging_state}
@@ -278,7 +278,7 @@ complete_effect m source plan least =
 
 abbrev pub finish_effect : Mounted → Phase → Effect Mounted
 finish_effect m (Installing source plan) =
-    complete_effect m source plan (least_declared None plan.entries)
+    complete_effect m source plan (least_missing m.state source plan)
 finish_effect m _ = refuses refusals.NotInstalling
 
 -- ---- a merge that begins
@@ -405,6 +405,7 @@ effect_on m staged (Snapshot name size) =
     edit_effect m store_guard (snapshot_edit name size) m.state.phase
 effect_on m staged Cancel = cancel_effect m m.state.phase
 effect_on m staged (Flash name k) = effect_in m staged (Flash name k)
+effect_on m staged (Keep name) = effect_in m staged (Keep name)
 effect_on m staged (SetActive slot) = effect_in m staged (SetActive slot)
 effect_on m staged Boot = effect_in m staged Boot
 effect_on m staged Mark = effect_in m staged Mark

@@ -10,8 +10,9 @@ use vab_gate::DiskFault;
 pub enum StartFault {
     /// So many sectors are needed, and there are fewer.
     TooSmall(u64, u64),
-    /// Sector 2048 is no update mark of any phase; or, while an update is installed, ready or being
-    /// merged, this sector is no status of a partition, or one of a partition that has one before.
+    /// Sector 2048 is no update mark of any phase, or one of physical partitions, which no device
+    /// has yet; or, while an update is installed, ready or being merged, this sector is no status
+    /// of a partition, or one of a partition that has one before.
     BadMark(u64),
     /// Sector 4 is no boot control.
     BadControl(ControlFault),
