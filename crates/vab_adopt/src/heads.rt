@@ -32,6 +32,7 @@ pub(crate) fn idle_mark(slot: usize) -> UpdateMark
         slot,
         apart: false,
         overlaid: false,
+        physical: false,
     }
 }
 

@@ -11,7 +11,7 @@ use Rattle.vab_bootctl.specs.Control.{control_of}
 use Rattle.vab_marks.specs.declared.mark.MarkPhase.TheVariants as marks
 use Rattle.vab_marks.specs.declared.mark.UpdateMark.{UpdateMark}
 use Rattle.vab_marks.specs.declared.status.PartStatus.{PartStatus}
-use Rattle.vab_marks.specs.Mark.{mark_of, mark_spelling, rephased, resloted, begun, FlagsFit}
+use Rattle.vab_marks.specs.Mark.{mark_of, mark_spelling, rephased, resloted, begun}
 use Rattle.vab_statuses.specs.Statuses.{statuses_in, no_statuses, IsOfStatuses}
 use Rattle.vab_statuses.proofs.StatusesLaws.{statuses_same}
 use Rattle.vab_geometry.specs.declared.geometry.Geometry.{Geometry}
@@ -61,6 +61,7 @@ use Rattle.vab_device.specs.Reading.{version_at}
 use Rattle.vab_device.proofs.MostLaws.{parts_all, parts_two}
 use Rattle.vab_device.proofs.SameLaws.{version_same, most_same}
 use Rattle.vab_device.proofs.StayLaws.{version_there}
+use Rattle.vab_device.proofs.ReadingLaws.{bare_known}
 
 -- what is read without an update
 abbrev pub idle_shape : UpdateMark
@@ -346,14 +347,13 @@ module _
     unfolding no_statuses
     no_stores = refl
 
-    begun_fits : (b : Bool) → FlagsFit (begun b (resloted slot base))
-    begun_fits true = (refl, refl)
-    begun_fits false = (refl, refl)
+    bare : base.physical ≡ false
+    bare = bare_known old (rephased marks.Idle (resloted slot base)) reads.mark
 
     pub reads_new : Reads size after new
     reads_new = record {
       enough = reads.enough;
-      mark = mark_there (begun apart (resloted slot base)) new refl (begun_fits apart) read
+      mark = mark_there (begun apart (resloted slot base)) new refl bare read
           (set_here mid 2048 (mark_spelling (begun apart (resloted slot base))) 2048
           refl);
       statuses = statuses_new;

@@ -33,7 +33,7 @@ use Rattle.vab_model.specs.Effects.{does, refuses, wanting, unless_refused, if_p
 use Rattle.vab_device.specs.declared.device.Part.{Part}
 use Rattle.vab_device.specs.declared.device.Device.{Device}
 use Rattle.vab_device.specs.Idle.{control_read_of}
-use Rattle.vab_device.specs.Kept.{IsDevice, IsTableOf, IsKeptTable, IsUpdate, lies_in, IsOverlay}
+use Rattle.vab_device.specs.Kept.{IsDevice, IsTableOf, IsKeptTable, IsUpdate, lies_in}
 use Rattle.vab_device.specs.Kept.{table_of_slot, HasNoStores}
 use Rattle.vab_device.specs.Mounted.{Mounted, mounted_on, state_on, images_on, image_on, overlay_on}
 use Rattle.vab_device.specs.Phases.{phase_in, phase_at, plan_of}
@@ -49,7 +49,7 @@ use Rattle.vab_begin.specs.Writes.{begin_of, IsOfPlaces}
 use Rattle.vab_device.proofs.DoesLaws.{step_follows}
 use Rattle.vab_device.proofs.Steps.{marked, IsStep}
 use Rattle.vab_begin.proofs.KeptLaws.{update_kept}
-use Rattle.vab_device.proofs.MarkLaws.{rephased_again, as_idle}
+use Rattle.vab_device.proofs.MarkLaws.{as_idle}
 use Rattle.vab_device.proofs.ReadingLaws.{flags_known}
 use Rattle.vab_device.proofs.PhaseCases.{some_of, none_of, cases_slot, unplanned_of}
 use Rattle.vab_begin.proofs.KeptLaws.{current_of, source_a, source_b, no_target_a, no_target_b}

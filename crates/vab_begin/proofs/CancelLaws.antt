@@ -50,6 +50,7 @@ use Rattle.vab_device.proofs.MostLaws.{parts_under}
 use Rattle.vab_device.proofs.StayLaws.{version_there}
 use Rattle.vab_device.proofs.OverlayLaws.{plain_none}
 use Rattle.vab_begin.proofs.KeptLaws.{ends_plain}
+use Rattle.vab_device.proofs.ReadingLaws.{bare_known}
 
 -- ---- what is kept
 
@@ -273,10 +274,14 @@ module _
       let both : two.0 ∷ [] ≡ one.0 ∷ [] = one.1 in
       one.2 ∙ (let e : one.0 ≡ two.0 = cc in ap Ok e)
 
+  bare : d.mark.physical ≡ false
+  bare =
+      ap (λ (m : UpdateMark). m.physical) own_mark ∙ bare_known old r.mark is.reads.mark
+
   mark_new : mark_in new ≡ Ok (rephased marks.Idle r.mark)
   mark_new =
       subst (λ (m : UpdateMark). mark_in new ≡ Ok (rephased marks.Idle m)) own_mark
-      (mark_there (rephased marks.Idle d.mark) new refl (refl, refl) read
+      (mark_there (rephased marks.Idle d.mark) new refl bare read
       (set_here old 2048 (mark_spelling (rephased marks.Idle d.mark)) 2048 refl))
 
   reads : Reads size (idle_read (rephased marks.Idle r.mark) d.control r.geometry two.0) new

@@ -21,7 +21,7 @@ use Rattle.vab_install.specs.Control.{cleared_of, IsControl as IsClearing}
 use Rattle.vab_model.specs.Commands.{Command, SetActive, Boot, Mark, Print, Digest, Begin, Create}
 use Rattle.vab_model.specs.Commands.{Resize, Delete, Snapshot, Flash, Finish, Cancel, BeginMerge}
 use Rattle.vab_model.specs.Commands.{Merge, Factory, UpdateSuper, Overlay, OverlayWrite}
-use Rattle.vab_model.specs.Commands.{OverlayDiscard}
+use Rattle.vab_model.specs.Commands.{OverlayDiscard, Keep}
 use Rattle.vab_device.specs.declared.device.Device.{Device}
 use Rattle.vab_device.specs.declared.device.Part.{Part}
 use Rattle.vab_device.specs.Does.{KeepsSource}
@@ -149,6 +149,7 @@ module _ {D : Type 0}
       (image_is_free d (g.size old) (g.seen old) name w.place s device is w.has image)))))
       (λ status. inr (inr (inl status.there)))
       w.writes
+  one_writes (Keep name) not w = absurd w
   one_writes Finish not w = ⊎_elim
       (λ control.
       inl (record {

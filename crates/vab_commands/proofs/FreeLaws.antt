@@ -1,6 +1,6 @@
 -- The blocks that an update's images are written into lie where no image does, and so do those of
 -- an overlay's store.
-use Rattle.std.proofs.Common.{◌≡◌, ℕ, zero, suc, ◌*◌, ◌≤◌, inl, inr, List, [], ◌∷◌, arith}
+use Rattle.std.proofs.Common.{ℕ, zero, suc, ◌*◌, ◌≤◌, inl, inr, List, [], ◌∷◌, arith}
 use Rattle.std.specs.Prelude.{take}
 use Rattle.std.proofs.lemmas.Bool.{and_parts, leb-true}
 use Rattle.vab_disk.specs.Disk.{Image}

@@ -3,7 +3,7 @@ use Rattle.std.specs.Prelude.{ℕ, ◌^◌, nat_le, true, false, List, Option}
 use Rattle.vab_model.specs.Commands.{Command, SetActive, Boot, Mark, Print, Digest, Begin, Create}
 use Rattle.vab_model.specs.Commands.{Resize, Delete, Snapshot, Flash, Finish, Cancel, BeginMerge}
 use Rattle.vab_model.specs.Commands.{Merge, Factory, UpdateSuper, Overlay, OverlayWrite}
-use Rattle.vab_model.specs.Commands.{OverlayDiscard}
+use Rattle.vab_model.specs.Commands.{OverlayDiscard, Keep}
 use Rattle.vab_device.specs.declared.device.Device.{Device}
 use Rattle.vab_device.specs.Updates.{create_edit, resize_edit, delete_edit, snapshot_edit}
 use Rattle.vab_device.specs.Updates.{no_guard, settled_guard, store_guard}
@@ -41,6 +41,7 @@ IsOfCommand told d old (Delete name) s b =
 IsOfCommand told d old (Snapshot name size) s b =
     IsOfEdit d store_guard (snapshot_edit name size) s b
 IsOfCommand told d old (Flash name chunk) s b = IsOfFlash d name s b
+IsOfCommand told d old (Keep name) s b = ⊥
 IsOfCommand told d old Finish s b = IsOfFinished told d old s b
 IsOfCommand told d old Cancel s b = IsOfCancelled d s b
 IsOfCommand told d old BeginMerge s b = IsOfMergeBegun d s b

@@ -14,7 +14,7 @@ use vab_device::Device;
 use vab_disk::Disk;
 use vab_edit::edit;
 use vab_finish::finish;
-use vab_flash::flash;
+use vab_flash::{flash, keep};
 use vab_gate::DiskFault;
 use vab_manager::{boot, digest, mark, print, set_active};
 use vab_merging::{begin_merge, merge};
@@ -60,6 +60,10 @@ pub fn run_one<D: Disk>(
         Command::Delete(name) => edit(alloc, d, device, &Edit::Delete(name)),
         Command::Snapshot(name, size) => edit(alloc, d, device, &Edit::AddStore(name, size)),
         Command::Flash(name, chunk) => flash(alloc, d, device, name, staged, chunk),
+        Command::Keep(name) => {
+            let reply = keep(&device, name);
+            Ok((device, reply))
+        }
         Command::Cancel => cancel(d, device),
         Command::Finish => finish(d, device),
         Command::BeginMerge => begin_merge(d, device),

@@ -32,7 +32,6 @@ use Rattle.vab_device.specs.Stores.{Scanned}
 use Rattle.vab_device.specs.Updates.{finished, final_image}
 use Rattle.vab_device.proofs.Behind.{images_behind, stores_behind, plan_behind}
 use Rattle.vab_device.proofs.CheckLaws.{first_kept, check_kept}
-use Rattle.vab_device.proofs.MarkLaws.{rephased_fits}
 use Rattle.vab_device.proofs.OpeningLaws.{control_seen_in}
 use Rattle.vab_device.proofs.ReadingLaws.{control_is_seen}
 use Rattle.vab_device.proofs.SameLaws.{mark_same, control_same, geometry_same, tables_agree}
@@ -49,6 +48,7 @@ use Rattle.vab_device.specs.Reading.{version_at}
 use Rattle.vab_device.proofs.MostLaws.{parts_under}
 use Rattle.vab_device.proofs.SameLaws.{version_same, most_same}
 use Rattle.vab_device.proofs.StayLaws.{version_there}
+use Rattle.vab_device.proofs.ReadingLaws.{bare_known}
 
 -- the source's boot control lets it be booted, also with nothing said of the target
 runs_of : (slot : ℕ) (c : Control)
@@ -219,7 +219,7 @@ module _
     reads_new = record {
       enough = reads.enough;
       mark = mark_there (rephased marks.Staged (resloted slot base)) new refl
-          (rephased_fits marks.Staged (resloted slot base)) read
+          (bare_known old (rephased marks.Installing (resloted slot base)) reads.mark) read
           (set_here mid 2048 (mark_spelling (rephased marks.Staged (resloted slot base))) 2048
           refl);
       statuses =

@@ -93,6 +93,7 @@ pub flash_named : (d : Device) (image : Image) (staged : Option (List ℕ)) (nam
     → effect_on (mounted_on d image) staged (Flash name chunk)
     ≡ entry_effect (mounted_on d image) d.mark.slot (plan_of_parts d image plan) chunk staged
     (entry_named (base_of name) (map (entry_on image) plan))
+unfolding state_on
 flash_named d image staged name chunk plan is full =
     flash_planned d image staged name chunk plan is
     ∙ (λ k.
@@ -106,6 +107,7 @@ pub flash_other : (d : Device) (image : Image) (staged : Option (List ℕ)) (nam
     → d.plan ≡ Some plan
     → is_full (other_slot d.mark.slot) name ≡ false
     → effect_on (mounted_on d image) staged (Flash name chunk) ≡ refuses refusals.BadName
+unfolding state_on
 flash_other d image staged name chunk plan is other =
     flash_planned d image staged name chunk plan is
     ∙ (λ k.
@@ -250,6 +252,7 @@ no_state = record {
   control = no_control;
   a = None;
   b = None;
+  physical = [];
   phase = Idle;
   overlay = None;
 }

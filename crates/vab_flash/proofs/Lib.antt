@@ -7,6 +7,7 @@ pub mod ApartLaws
 pub mod DeadLaws
 pub mod GateLaws
 pub mod ChosenLaws
+pub mod KeepLaws
 pub mod PlacedLaws
 pub mod SourceLaws
 pub mod NextLaws

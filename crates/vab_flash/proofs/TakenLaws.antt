@@ -1,5 +1,5 @@
 -- Of the sectors of the statuses a flash writes the first free one alone.
-use Rattle.std.proofs.Common.{◌≡◌, ℕ, ◌≤◌, List, length, Some, sym, ap, subst, arith}
+use Rattle.std.proofs.Common.{ℕ, ◌≤◌, List, length, Some, sym, ap, subst, arith}
 use Rattle.std.specs.Prelude.{Option}
 use Rattle.vab_disk.specs.declared.disk.Disk.{Ghosts}
 use Rattle.vab_disk.specs.Disk.{Image, IsAt}

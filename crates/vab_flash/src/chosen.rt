@@ -20,9 +20,7 @@ use vab_bytes::Listing;
 use vab_device::{Device, Part, PartImage};
 use vab_model::{Refusal, is_sparse};
 use vab_names::{base_of, is_full};
-
-/// Bytes of a block.
-const BLOCK: u64 = 4096;
+use vab_space::BLOCK;
 
 /// Where the image of a partition goes.
 #[derive(Clone, Copy, Debug, PartialEq, Eq)]
@@ -33,8 +31,8 @@ pub enum Destination {
     Blocks,
 }
 
-// The place of the first planned partition of a base name.
-fn place_of(plan: &Listing<Part>, base: &[u8]) -> Option<usize>
+/// The place of the first planned partition of a base name.
+pub(crate) fn place_of(plan: &Listing<Part>, base: &[u8]) -> Option<usize>
     ensures { result ≡ place_of base.now plan.now }
 {
     plan.as_slice().iter().position(|p| p.name.text() == base)
@@ -105,7 +103,7 @@ fn fit<'a>(
     if is_sparse(bytes) {
         return Err(Refusal::Sparse);
     }
-    let most = BLOCK * entry.map.len();
+    let most = BLOCK as u64 * entry.map.len();
     if bytes.len() as u64 > most {
         return Err(Refusal::TooLarge(bytes.len() as u64, most));
     }

@@ -4,13 +4,13 @@ use Rattle.std.proofs.Common.{inl}
 use Rattle.vab_model.specs.Commands.{Command, SetActive, Boot, Mark, Print, Digest, Begin, Create}
 use Rattle.vab_model.specs.Commands.{Resize, Delete, Snapshot, Flash, Finish, Cancel, BeginMerge}
 use Rattle.vab_model.specs.Commands.{Merge, Factory, UpdateSuper, Overlay, OverlayWrite}
-use Rattle.vab_model.specs.Commands.{OverlayDiscard}
+use Rattle.vab_model.specs.Commands.{OverlayDiscard, Keep}
 use Rattle.vab_targets.proofs.Plans.{BeginKeepsImages, EditsFollowSizes}
 use Rattle.vab_machine_laws.specs.Rows.{IsTheMachines}
 use Rattle.vab_machine_laws.specs.Edits.{IsTheMachinesOrFull, IsTheMachinesFullOrOther}
 use Rattle.vab_machine_laws.proofs.SlotRows.{set_active_row, boot_row, mark_row, print_row}
 use Rattle.vab_machine_laws.proofs.SlotRows.{digest_row, finish_is, cancel_is, begin_merge_is}
-use Rattle.vab_machine_laws.proofs.SlotRows.{merge_is, flash_is, overlay_write_row}
+use Rattle.vab_machine_laws.proofs.SlotRows.{merge_is, flash_is, keep_is, overlay_write_row}
 use Rattle.vab_machine_laws.proofs.SlotRows.{overlay_discard_row}
 use Rattle.vab_machine_laws.proofs.Begins.{update_is, factory_is}
 use Rattle.vab_machine_laws.proofs.Creates.{create_is}
@@ -42,6 +42,7 @@ each_is begins edits (Delete name) = by_table (Delete name) (delete_is edits nam
 each_is begins edits (Snapshot name size) =
     by_table (Snapshot name size) (snapshot_is edits name size)
 each_is begins edits (Flash name chunk) = plainly (Flash name chunk) (flash_is name chunk)
+each_is begins edits (Keep name) = plainly (Keep name) (keep_is name)
 each_is begins edits Finish = plainly Finish finish_is
 each_is begins edits Cancel = plainly Cancel cancel_is
 each_is begins edits BeginMerge = plainly BeginMerge begin_merge_is

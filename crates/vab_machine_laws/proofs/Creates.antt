@@ -1,5 +1,5 @@
 -- The row of a partition more.
-use Rattle.std.proofs.Common.{◌≡◌, ◌∙◌, ℕ, ◌^◌, ◌<◌, false, List, [], ◌∷◌}
+use Rattle.std.proofs.Common.{◌≡◌, ◌+◌, ◌∙◌, ℕ, ◌^◌, ◌<◌, false, List, [], ◌∷◌}
 use Rattle.std.proofs.Common.{◌++◌}
 use Rattle.std.proofs.Common.{inl, inr, refl, sym, ap, subst, length, arith}
 use Rattle.std.specs.Prelude.{Option, Result, nat_le, nat_lt, Contains, map}
@@ -164,6 +164,13 @@ module _
   long : length plan.entries ≡ length own
   long = ap length i.again ∙ length-map own (entry_by i.t plan.entries)
 
+  -- the partitions that are counted: there are no physical ones
+  abbrev counted : ℕ
+  counted = length m.state.physical + length plan.entries
+
+  counted_is : counted ≡ length plan.entries
+  counted_is = rw i.bare (omega arith)
+
   -- ---- the row
 
   abbrev row : Effect State
@@ -192,22 +199,23 @@ module _
                     let is = e.1 in
                     subst Given
                     (sym (created-exists o twins i.s i.t name bytes full short there))
-                    (rw (full, sized, is) refl, refl)
+                    (rw (i.bare, full, sized, is) refl, refl)
                 | inr absent ↦
                     let is = entry_absent o i.t plan.entries i.again name of absent in
-                    elim (cases_Bool (nat_lt (length plan.entries) most_partitions)) [
+                    elim (cases_Bool (nat_lt counted most_partitions)) [
                       | inr many ↦
-                          let most = ltb-false (length plan.entries) most_partitions many in
+                          let most = ltb-false counted most_partitions many in
                           subst Given
                           (sym (created-too_many o twins i.s i.t name bytes full short absent
-                          (omega (arith, most, long))))
-                          (rw (full, sized, is, many) refl, refl)
+                          (omega (arith, most, long, counted_is))))
+                          (rw (full, sized, many, i.bare, is) refl, refl)
                       | inl few ↦
-                          let under = ltb-true (length plan.entries) most_partitions few in
-                          let small : length own < most_partitions = omega (arith, under, long) in
+                          let under = ltb-true counted most_partitions few in
+                          let small : length own < most_partitions =
+                          omega (arith, under, long, counted_is) in
                           let judged : row
                           ≡ if_within m.state source (first_group m.state.groups) next =
-                          rw (full, sized, is, few) refl in
+                          rw (full, sized, few, i.bare, is) refl in
                           let asked = judged ∙ within_is absent in
                           let roomed = room_is size image m source plan whole i h entries wanted
                           wants in

@@ -54,7 +54,7 @@ module _ (m : Mounted) (source : ℕ) (plan : Plan) (i : IsInstalled m source pl
       let is = k.is in
       let plain = k.plain in
       let settled = k.settled in
-      rw (full, is, plain, settled) refl
+      rw (i.bare, full, is, plain, settled) refl
 
   free_given : is_kept true o name plan ≡ false → Given made
   free_given free = elim (cases_Bool (is_full o name)) [
@@ -65,7 +65,7 @@ module _ (m : Mounted) (source : ℕ) (plan : Plan) (i : IsInstalled m source pl
           | inr absent ↦
               let none = entry_absent o i.t plan.entries i.again name of absent in
               subst Given (sym (deleted-unknown o i.t name full absent))
-              (rw (full, none) refl, refl)
+              (rw (i.bare, full, none) refl, refl)
           | inl there ↦
               let e = entry_there o i.t plan.entries i.again name of there in
               let has = store_there o i.t plan.entries i.again name e.0.part e.0.named in
@@ -74,14 +74,14 @@ module _ (m : Mounted) (source : ℕ) (plan : Plan) (i : IsInstalled m source pl
                 | inl stored ↦
                     let some = has ∙ stored in
                     subst Given (sym (deleted-has_store o i.t name full there stored))
-                    (rw (full, is, some) refl, refl)
+                    (rw (i.bare, full, is, some) refl, refl)
                 | inr plain ↦
                     let none = has ∙ plain in
                     let loose = free_entry true o name plan (entry_by i.t plan.entries e.0.part)
                     full refl is none free in
                     let done = deleted-ok o i.t name
                     (record { full = full; known = there; plain = plain }) in
-                    subst Given (sym done) (rw (full, is, none, loose) refl)
+                    subst Given (sym done) (rw (i.bare, full, is, none, loose) refl)
               ]
         ]
   ]

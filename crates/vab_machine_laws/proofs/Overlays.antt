@@ -1,6 +1,7 @@
 -- The row of an overlay: the machine doesn't know of the text of the slot's table with the store.
 use Rattle.std.proofs.Common.{◌≡◌, ℕ, Bool, true, false, List, inl, inr, refl, sym, subst}
-use Rattle.std.specs.Prelude.{nat_le, Option, Some, None}
+use Rattle.std.specs.Prelude.{nat_le, not, Option, Some, None}
+use Rattle.vab_model.specs.Physical.{is_physical}
 use Rattle.std.proofs.lemmas.Bool.{cases_Bool, leb-false}
 use Rattle.vab_disk.specs.Disk.{Image}
 use Rattle.vab_names.specs.Names.{is_full, base_of}
@@ -110,10 +111,14 @@ module _
       let e : Effect Mounted =
       overlay_image m.state.cap images bytes (told (layout_at m.places slot)) found in
       let f : Effect State = overlay_image m.state.cap images bytes begun found in
+      let logical : Bool = not (is_physical (base_of name) m.state.physical) in
+      let named_e : Effect Mounted = unless logical refusals.Physical e in
+      let named_f : Effect State = unless logical refusals.Physical f in
       unless_are (is_full slot name) refusals.BadName
-      (unless (is_store_size bytes) refusals.BadSize e)
-      (unless (is_store_size bytes) refusals.BadSize f)
-      (unless_are (is_store_size bytes) refusals.BadSize e f (image_are found phase none))
+      (unless (is_store_size bytes) refusals.BadSize named_e)
+      (unless (is_store_size bytes) refusals.BadSize named_f)
+      (unless_are (is_store_size bytes) refusals.BadSize named_e named_f
+      (unless_are logical refusals.Physical e f (image_are found phase none)))
   row_are (Installing source plan) phase none = inl refl
   row_are (Staged source left) phase none = inl refl
   row_are (Merging target left) phase none = inl refl

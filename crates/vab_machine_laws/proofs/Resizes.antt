@@ -223,7 +223,7 @@ module _
       let is = k.is in
       let plain = k.plain in
       let settled = k.settled in
-      rw (full, sized, is, plain, settled) refl
+      rw (i.bare, full, sized, is, plain, settled) refl
 
   free_given : is_kept sized_test o name plan ≡ false → Given made
   free_given free = elim (cases_Bool (is_full o name)) [
@@ -244,7 +244,7 @@ module _
                     let no = entry_absent o i.t plan.entries i.again name of absent in
                     subst Given
                     (sym (resized-unknown o twins i.s i.t name bytes full short absent))
-                    (rw (full, sized, no) refl, refl)
+                    (rw (i.bare, full, sized, no) refl, refl)
                 | inl there ↦
                     let e = entry_there o i.t plan.entries i.again name of there in
                     let has = store_there o i.t plan.entries i.again name e.0.part e.0.named in
@@ -255,13 +255,13 @@ module _
                           subst Given
                           (sym (resized-has_store o twins i.s i.t name bytes full short there
                           stored))
-                          (rw (full, sized, is, some) refl, refl)
+                          (rw (i.bare, full, sized, is, some) refl, refl)
                       | inr plain ↦
                           let no = has ∙ plain in
                           let loose = free_entry sized_test o name plan (entry e.0.part) full sized
                           is no free in
                           let judged : row ≡ if_within m.state source (group_of e.0.part.group) next
-                          = rw (full, sized, is, no, loose) refl in
+                          = rw (i.bare, full, sized, is, no, loose) refl in
                           let asked = judged ∙ within_is e.0 of in
                           let roomed = room_is size image m source plan whole i h entries
                           (wants_resized o twins i.t.parts name n) (wants of) in

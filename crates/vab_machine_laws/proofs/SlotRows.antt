@@ -7,10 +7,10 @@ use Rattle.vab_model.specs.declared.state.Phase.{Phase}
 use Rattle.vab_model.specs.declared.state.Phase.TheVariants.{Idle, Installing, Staged, Merging}
 use Rattle.vab_model.specs.declared.state.State.{State}
 use Rattle.vab_model.specs.declared.command.Reply.TheVariants as replies
-use Rattle.vab_model.specs.Commands.{SetActive, Boot, Mark, Print, Digest, Flash, Finish}
+use Rattle.vab_model.specs.Commands.{SetActive, Boot, Mark, Print, Digest, Flash, Keep, Finish}
 use Rattle.vab_model.specs.Commands.{Cancel, BeginMerge, Merge, OverlayWrite, OverlayDiscard}
 use Rattle.vab_model.specs.Effects.{Effect, effect_map, does}
-use Rattle.vab_model.specs.Machine.{machine_effect, finish_row, if_installing, least_declared}
+use Rattle.vab_model.specs.Machine.{machine_effect, finish_row, if_installing, least_missing}
 use Rattle.vab_model.specs.Machine.{finished as finished_state, if_complete}
 use Rattle.vab_model.specs.Machine.{merge_row, cancel_row, begin_merge_row}
 use Rattle.vab_device.specs.Mounted.{Mounted, in_state}
@@ -36,7 +36,7 @@ back f same e = (λ i. record {
   wants = e.wants;
 })
 
--- ---- slots, images and a flash
+-- ---- slots, images, a flash and a keep
 
 pub set_active_row : (slot : ℕ) → IsTheMachines (SetActive slot)
 set_active_row slot m staged =
@@ -59,6 +59,10 @@ digest_row name m staged =
 pub flash_is : (name : List ℕ) (chunk : Chunk) → IsTheMachines (Flash name chunk)
 flash_is name chunk m staged =
     back (in_state m) (λ s. refl) (machine_effect m.state staged (Flash name chunk))
+
+pub keep_is : (name : List ℕ) → IsTheMachines (Keep name)
+keep_is name m staged =
+    back (in_state m) (λ s. refl) (machine_effect m.state staged (Keep name))
 
 -- ---- writes over a partition
 
@@ -101,7 +105,7 @@ finish_same : (m : Mounted) (phase : Phase)
     → on_states (finish_effect m phase) ≡ if_installing phase (finish_row m.state)
 finish_same m Idle = refl
 finish_same m (Installing source plan) =
-    complete_same m source plan (least_declared None plan.entries)
+    complete_same m source plan (least_missing m.state source plan)
 finish_same m (Staged source left) = refl
 finish_same m (Merging target left) = refl
 

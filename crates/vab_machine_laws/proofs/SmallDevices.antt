@@ -15,6 +15,7 @@ use Rattle.vab_space.specs.declared.Chunk.{Chunk}
 use Rattle.vab_store.specs.View.{stored_at}
 use Rattle.vab_builder.proofs.Counting.{few_below}
 use Rattle.vab_model.specs.declared.state.Image.{Image as ImageOfSlot}
+use Rattle.vab_model.specs.declared.state.Physical.{Physical}
 use Rattle.vab_device.specs.declared.device.Part.{Part}
 use Rattle.vab_device.specs.declared.device.PartImage.{PartImage}
 use Rattle.vab_device.specs.declared.device.PartImage.TheVariants.{Kept, Declared, Written}
@@ -198,6 +199,7 @@ unfolding state_on
 devices_small size image d small whole is = record {
   a = slot_small size image whole d.a is.parts_a;
   b = slot_small size image whole d.b is.parts_b;
+  physical = record { few = omega arith; each = All-nil (λ (p : Physical). p.blocks ≤ 2 ^ 28) };
   phase =
       phase_small size image whole small d.mark (count_at d.a + count_at d.b) d.plan is.plan;
   overlay = overlay_small size image whole small (parts_at d d.mark.slot) d.overlay is.overlay;

@@ -27,10 +27,10 @@ use Rattle.vab_model.specs.declared.state.State.{State}
 use Rattle.vab_model.specs.declared.command.Refusal.TheVariants as refusals
 use Rattle.vab_model.specs.Commands.{Snapshot}
 use Rattle.vab_model.specs.Effects.{Effect, refuses}
-use Rattle.vab_model.specs.Plans.{entry_named, at_entry, stored_entry, images_of, twins_of}
+use Rattle.vab_model.specs.Plans.{at_entry, stored_entry, images_of, twins_of}
 use Rattle.vab_model.specs.Plans.{with_entries}
 use Rattle.vab_model.specs.Plans.{want_of as want_entry}
-use Rattle.vab_model.specs.Machine.{unless, if_planned, snapshot_row, machine_effect, if_room}
+use Rattle.vab_model.specs.Machine.{unless, if_logical, snapshot_row, machine_effect, if_room}
 use Rattle.vab_device.specs.Mounted.{Mounted}
 use Rattle.vab_device.specs.Updates.{store_guard, entry_by}
 use Rattle.vab_targets.specs.Sectors.{HasWholeSectors}
@@ -104,7 +104,7 @@ module _
   beside_row =
       unless (is_full o name) refusals.BadName
       (unless (store_size bytes) refusals.BadSize
-      (if_planned (entry_named (base_of name) plan.entries) (λ e.
+      (if_logical m.state (base_of name) plan (λ e.
       unless (not (is_some e.store)) refusals.HasStore (if_room m.state source next))))
 
   abbrev made : Result Layout EditFault
@@ -127,7 +127,7 @@ module _
             | inr absent ↦
                 let none = entry_absent o i.t plan.entries i.again name of absent in
                 subst Beside (sym (stored-unknown o twins i.s i.t name bytes full sized absent))
-                (rw (full, sized, none) refl, refl)
+                (rw (i.bare, full, sized, none) refl, refl)
             | inl there ↦
                 let e = entry_there o i.t plan.entries i.again name of there in
                 let has = store_there o i.t plan.entries i.again name e.0.part e.0.named in
@@ -138,11 +138,11 @@ module _
                       subst Beside
                       (sym (stored-has_store o twins i.s i.t name bytes full sized there
                       stored))
-                      (rw (full, sized, is, some) refl, refl)
+                      (rw (i.bare, full, sized, is, some) refl, refl)
                   | inr plain ↦
                       let none = has ∙ plain in
                       let room : beside_row ≡ if_room m.state source next =
-                      rw (full, sized, is, none) refl in
+                      rw (i.bare, full, sized, is, none) refl in
                       let asked = room_is size image m source plan whole i h entries
                       (wants_stored o twins i.t.parts name n) (wants of) in
                       elim (cases_Bool (nat_le used (cap_of i.t.device))) [

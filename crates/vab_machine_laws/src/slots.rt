@@ -1,8 +1,8 @@
 //! Commands that no table can refuse.
 ghost use Rattle.vab_space.specs.declared.Chunk.{Chunk};
 ghost use Rattle.vab_machine_laws.specs.Rows.{IsTheMachines};
-ghost use Rattle.vab_model.specs.Commands.{SetActive, Boot, Mark, Print, Digest, Flash, Finish};
-ghost use Rattle.vab_model.specs.Commands.{Cancel, BeginMerge, Merge};
+ghost use Rattle.vab_model.specs.Commands.{SetActive, Boot, Mark, Print, Digest, Flash, Keep};
+ghost use Rattle.vab_model.specs.Commands.{Finish, Cancel, BeginMerge, Merge};
 ghost use Rattle.std.specs.Prelude.{ℕ, List};
 
 /// What a command on slots or on images makes of a device is what the machine makes of its state.
@@ -22,7 +22,8 @@ pub fn ends_are_the_machines()
     ensures merge { (count : ℕ) → IsTheMachines (Merge count) }
 {}
 
-/// So is what a flash makes of it.
+/// So is what a flash makes of it, or the keeping of a physical partition.
 pub fn flashes_are_the_machines()
-    ensures { (name : List ℕ) (chunk : Chunk) → IsTheMachines (Flash name chunk) }
+    ensures flash { (name : List ℕ) (chunk : Chunk) → IsTheMachines (Flash name chunk) }
+    ensures keep { (name : List ℕ) → IsTheMachines (Keep name) }
 {}

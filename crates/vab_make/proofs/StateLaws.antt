@@ -196,6 +196,7 @@ module _
       control = made_control;
       a = Some (map (image_on image) (parts_of 0 l));
       b = None;
+      physical = [];
       phase = phases.Idle;
       overlay = None;
     };

@@ -99,6 +99,7 @@ made_state set limit size = record {
   control = made_control;
   a = Some (map made_image set);
   b = None;
+  physical = [];
   phase = Idle;
   overlay = None;
 }

@@ -7,7 +7,7 @@ ghost use Rattle.vab_make.specs.Refusals.{Refuses, PassesSizes};
 
 use crate::fault::MakeFault;
 use vab_set::Set;
-use vab_space::blocks;
+use vab_space::{BLOCK, blocks};
 
 // The least disk: the copies of two slots' tables, and one block behind the first megabyte of
 // `super`.
@@ -15,8 +15,6 @@ const LEAST: u64 = 6152;
 
 // The disk sector of the device's first block.
 pub const FIRST: u64 = 6144;
-
-const BLOCK: u64 = 4096;
 
 /// The blocks of 4096 bytes that all images of a set take.
 pub fn set_blocks(set: &Set) -> u64
@@ -50,8 +48,8 @@ pub fn check_sizes(set: &Set, limit: u64, sectors: u64) -> Result<(), MakeFault>
         return Err(MakeFault::TooSmall(LEAST, sectors));
     }
     let used = set_blocks(set);
-    if limit != 0 && limit < BLOCK * used {
-        return Err(MakeFault::GroupLimit(BLOCK * used, limit));
+    if limit != 0 && limit < BLOCK as u64 * used {
+        return Err(MakeFault::GroupLimit(BLOCK as u64 * used, limit));
     }
     let cap = capacity(sectors);
     if cap < used {

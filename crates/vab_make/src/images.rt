@@ -10,9 +10,7 @@ use crate::checks::FIRST;
 use vab_disk::Disk;
 use vab_gate::{DiskFault, put_block};
 use vab_set::Set;
-use vab_space::blocks;
-
-const BLOCK: usize = 4096;
+use vab_space::{BLOCK, blocks};
 
 // A block of these bytes, filled up with zeros.
 fn block_of(bytes: &[u8], k: usize) -> [u8; 4096]

@@ -15,14 +15,12 @@ use crate::fault::MakeFault;
 use std::alloc::Global;
 use vab_blocks::Blocks;
 use vab_bytes::{Listing, Name36};
+use vab_geometry::SUPER;
 use vab_layout::{Layout, Part};
 use vab_names::{default_group, full_name};
 use vab_set::{Set, SetImage};
 use vab_space::blocks;
 use vab_tables::{BlockDevice, Group};
-
-// The disk sector at which `super` begins.
-const SUPER: u64 = 4096;
 
 // A name that there is.
 fn named(text: &[u8]) -> Name36

@@ -38,6 +38,7 @@ fn mark_sector() -> [u8; 512]
         slot: 0,
         apart: false,
         overlaid: false,
+        physical: false,
     })
 }
 

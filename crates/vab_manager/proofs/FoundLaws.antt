@@ -1,6 +1,6 @@
 -- The partition under a name has the image under it.
 use Rattle.std.proofs.Common.{◌≡◌, ℕ, inl, inr, List, Option, Some, None, Result, Ok, Err, refl, ap}
-use Rattle.std.proofs.Common.{◌∙◌, sym}
+use Rattle.std.proofs.Common.{◌∙◌, sym, []}
 use Rattle.std.specs.Prelude.{ok_or}
 use Rattle.std.specs.Option.{option_map}
 use Rattle.std.proofs.lemmas.Bool.{cases_Bool}
@@ -38,19 +38,19 @@ as_found : (image : Image) (o : Option Part)
 as_found image None = refl
 as_found image (Some p) = refl
 
-in_slot : (image : Image) (name : List ℕ) (o : Option (List Part))
-    → found_in (images_on image o) name ≡ found_by image (part_in name o)
-in_slot image name None = refl
-in_slot image name (Some ps) = ap found_image (image_of_part image (base_of name) ps)
+in_slot : (slot : ℕ) (image : Image) (name : List ℕ) (o : Option (List Part))
+    → found_in slot [] (images_on image o) name ≡ found_by image (part_in name o)
+in_slot slot image name None = refl
+in_slot slot image name (Some ps) = ap found_image (image_of_part image (base_of name) ps)
     ∙ as_found image (part_named (base_of name) ps)
 
 under_is : (d : Device) (image : Image) (name : List ℕ)
     → found_under (state_on d image) name ≡ found_by image (part_under d name)
 unfolding state_on
 under_is d image name = elim (cases_Bool (is_full 0 name)) [
-  | inl h ↦ rw h (in_slot image name d.a)
+  | inl h ↦ rw h (in_slot 0 image name d.a)
   | inr h ↦ elim (cases_Bool (is_full 1 name))
-      [ inl k ↦ rw (h, k) (in_slot image name d.b) | inr k ↦ rw (h, k) refl ]
+      [ inl k ↦ rw (h, k) (in_slot 1 image name d.b) | inr k ↦ rw (h, k) refl ]
 ]
 
 over_is : (d : Device) (size : ℕ) (image : Image) (name : List ℕ) (found : Result Part Refusal)

@@ -1,11 +1,10 @@
 -- The blocks of a partition and of its store are no blocks of any other.
-use Rattle.std.proofs.Common.{◌≡◌, ◌≢◌, ◌⊎◌, ◌∙◌, inl, inr, ℕ, zero, suc, ◌+◌, ◌≤◌, ◌<◌, true, List}
-use Rattle.std.proofs.Common.{[], ◌∷◌, ◌++◌, length, get_or, sym, ap, arith}
-use Rattle.std.specs.Prelude.{Some, Contains, slice_index}
+use Rattle.std.proofs.Common.{◌≡◌, ◌≢◌, ◌⊎◌, ◌∙◌, inl, inr, ℕ, ◌+◌, ◌≤◌, true, List}
+use Rattle.std.proofs.Common.{◌++◌, get_or, sym, ap, arith}
+use Rattle.std.specs.Prelude.{Some, Contains}
 use Rattle.std.proofs.lemmas.Bool.{cases_lt}
 use Rattle.std.proofs.lemmas.List.Elements.{All-contains, Contains-append_left}
 use Rattle.std.proofs.lemmas.List.Elements.{Contains-append_right}
-use Rattle.vab_disk.specs.Calls.{IsBetween}
 use Rattle.vab_names.specs.Names.{is_of_slot, is_store, store_of}
 use Rattle.vab_store.specs.Layout.{IsApart}
 use Rattle.vab_layout.specs.declared.layout.Part.{Part as PartOfLayout}

@@ -48,6 +48,7 @@ use Rattle.vab_names.specs.Names.{most_partitions}
 use Rattle.vab_device.specs.Reading.{version_at}
 use Rattle.vab_device.proofs.MostLaws.{parts_all, parts_two}
 use Rattle.vab_device.proofs.StayLaws.{version_there}
+use Rattle.vab_device.proofs.ReadingLaws.{bare_known}
 
 -- a mark while the stores of this slot are merged
 abbrev pub begun_mark : UpdateMark → ℕ → UpdateMark
@@ -232,7 +233,8 @@ module _
   pub reads_new : Reads size after new
   reads_new = record {
     enough = reads.enough;
-    mark = mark_there (begun_mark base target) new refl (refl, refl) read
+    mark = mark_there (begun_mark base target) new refl
+        (bare_known old (rephased marks.Staged (resloted slot base)) reads.mark) read
         (set_here old 2048 (mark_spelling (begun_mark base target)) 2048 refl);
     statuses =
         statuses_kept true old new (version_new ∙ sym version)

@@ -1,5 +1,5 @@
 -- With the mark that all stores are merged the disk is the device without an update.
-use Rattle.std.proofs.Common.{◌≡◌, ◌≢◌, ◌∙◌, ℕ, zero, suc, ◌+◌, ◌≤◌, ◌<◌, List, [], ◌∷◌}
+use Rattle.std.proofs.Common.{◌≡◌, ◌≢◌, ◌∙◌, ℕ, zero, suc, ◌+◌, ◌≤◌, ◌<◌, List, [], ◌∷◌, false}
 use Rattle.std.proofs.Common.{Ok, refl, sym, ap, subst, arith}
 use Rattle.std.specs.Prelude.{Option, Some, None, ◌==◌, map, is_some}
 use Rattle.vab_disk.specs.Disk.{Image}
@@ -11,8 +11,6 @@ use Rattle.vab_marks.specs.declared.mark.MarkPhase.TheVariants as marks
 use Rattle.vab_marks.specs.declared.mark.UpdateMark.{UpdateMark}
 use Rattle.vab_marks.specs.declared.status.PartStatus.{PartStatus}
 use Rattle.vab_marks.specs.Mark.{mark_of, mark_spelling, rephased, resloted}
-use Rattle.vab_space.specs.declared.Chunk.{Chunk}
-use Rattle.vab_store.proofs.StoredLaws.{stored_none}
 use Rattle.vab_geometry.specs.declared.geometry.Geometry.{Geometry}
 use Rattle.vab_tables.specs.declared.table.Table.{Table}
 use Rattle.vab_layout.specs.declared.layout.Part.{Part as PartOfLayout}
@@ -35,7 +33,7 @@ use Rattle.vab_device.specs.Phases.{phase_in, phase_at, planned_on, slot_checks,
 use Rattle.vab_device.specs.Phases.{merging_check}
 use Rattle.vab_device.specs.Reading.{Read, mark_read, mark_in, table_at, tables_in, Reads}
 use Rattle.vab_device.specs.Reading.{Represents, AgreeCopies, IsOfImages, IsOfTables}
-use Rattle.vab_device.specs.Stores.{Scanned, sector_seen, sectors_seen}
+use Rattle.vab_device.specs.Stores.{Scanned}
 use Rattle.vab_device.specs.Updates.{merge_ended}
 use Rattle.vab_device.proofs.Behind.{images_behind}
 use Rattle.vab_device.proofs.CheckLaws.{first_kept}
@@ -60,15 +58,20 @@ use Rattle.vab_device.proofs.MostLaws.{parts_all}
 use Rattle.vab_device.proofs.StayLaws.{version_there}
 use Rattle.vab_device.proofs.OverlayLaws.{update_none}
 use Rattle.vab_marks.specs.Mark.{is_idle}
+use Rattle.vab_device.proofs.ReadingLaws.{bare_known}
+use Rattle.vab_device.proofs.StayLaws.{bare_read}
 
 -- the mark is read as that of no update
 completed_there : (m : UpdateMark) (image : Image)
+    → m.physical ≡ false
     → mark_of (mark_spelling (rephased marks.Completed m)) ≡ Ok (rephased marks.Completed m)
     → image 2048 ≡ mark_spelling (rephased marks.Completed m)
     → mark_in image ≡ Ok (rephased marks.Idle m)
 unfolding mark_in
-completed_there m image read same =
-    ap (λ (b : List ℕ). mark_read (mark_of b)) same ∙ ap mark_read read
+completed_there m image bare read same =
+    ap (λ (b : List ℕ). mark_read (mark_of b)) same
+    ∙ ap mark_read read
+    ∙ bare_read (rephased marks.Completed m) bare
 
 -- ---- images without stores
 
@@ -241,7 +244,8 @@ module _
   mark_new : mark_in new ≡ Ok (rephased marks.Idle r.mark)
   mark_new =
       subst (λ (m : UpdateMark). mark_in new ≡ Ok (rephased marks.Idle m)) own_mark
-      (completed_there d.mark new read
+      (completed_there d.mark new
+      (ap (λ (m : UpdateMark). m.physical) own_mark ∙ bare_known old r.mark is.reads.mark) read
       (set_here old 2048 (mark_spelling (rephased marks.Completed d.mark)) 2048 refl))
 
   reads_new : Reads size (idle_read (rephased marks.Idle r.mark) d.control r.geometry one.0) new

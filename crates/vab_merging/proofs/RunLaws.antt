@@ -6,7 +6,7 @@ use Rattle.std.specs.Prelude.{Option, Some, None, is_some, All, IfOk}
 use Rattle.std.proofs.lemmas.List.{get_or_default}
 use Rattle.std.proofs.lemmas.List.Elements.{All-get_or}
 use Rattle.vab_disk.specs.declared.disk.Disk.{Ghosts}
-use Rattle.vab_disk.specs.Disk.{Image, Outcome, Adds}
+use Rattle.vab_disk.specs.Disk.{Image, Adds}
 use Rattle.vab_disk.specs.Calls.{InSectors, IsAtRest, Touches, SameBut}
 use Rattle.vab_disk.proofs.CallLaws.{touches_wider, reads_none, quiet_none, touches_none}
 use Rattle.vab_disk.proofs.Moments.{adds_wider, adds_none}

@@ -1,10 +1,9 @@
 -- What is promised of a run in the store of one partition.
-use Rattle.std.specs.Prelude.{◌≡◌, ℕ, ◌<◌, List, [], length, Result, Ok, IfOk, OnOk}
+use Rattle.std.specs.Prelude.{◌≡◌, ℕ, ◌<◌, List, length, Result, Ok, IfOk, OnOk}
 use Rattle.vab_disk.specs.declared.disk.Disk.{Ghosts}
 use Rattle.vab_disk.specs.Disk.{Adds}
 use Rattle.vab_disk.specs.Calls.{FailsWithDisk, IsAtRest, Touches}
 use Rattle.vab_gate.specs.declared.gate.DiskFault.{DiskFault}
-use Rattle.vab_exceptions.specs.declared.area.Exception.{Exception}
 use Rattle.vab_space.specs.declared.Chunk.{Chunk}
 use Rattle.vab_space.specs.declared.Chunk.TheVariants.{One}
 use Rattle.vab_space.specs.Chunks.{entries_in}

@@ -41,6 +41,7 @@ fn give_up_source<D: Disk>(d: &mut D, device: Device) -> Result<(Device, Reply),
         slot: 1 - device.mark.slot,
         apart: false,
         overlaid: false,
+        ..device.mark
     };
     match put_mark(d, &mark) {
         Err(fault) => Err(fault),

@@ -43,6 +43,7 @@ use Rattle.vab_device.proofs.StayLaws.{mark_there, copy_stays, copies_from, one_
 use Rattle.vab_device.proofs.Steps.{marked, IsStep}
 use Rattle.vab_device.proofs.UpdateLaws.{kept_with}
 use Rattle.vab_overlaying.specs.Discarded.{without_overlay}
+use Rattle.vab_device.proofs.ReadingLaws.{bare_known}
 
 -- ---- what is kept
 
@@ -216,10 +217,14 @@ module _
         let both : one.0 ∷ [] ≡ there.0 ∷ [] = there.1 in
         there.2 ∙ (let e : there.0 ≡ one.0 = cc in ap Ok e)
 
+    bare : d.mark.physical ≡ false
+    bare =
+        ap (λ (m : UpdateMark). m.physical) own_mark ∙ bare_known old r.mark is.reads.mark
+
     mark_new : mark_in new ≡ Ok (overlaid_by false r.mark)
     mark_new =
         subst (λ (m : UpdateMark). mark_in new ≡ Ok (overlaid_by false m)) own_mark
-        (mark_there (overlaid_by false d.mark) new refl (refl, refl) read
+        (mark_there (overlaid_by false d.mark) new refl bare read
         (set_here old 2048 (mark_spelling (overlaid_by false d.mark)) 2048 refl))
 
     reads : Reads size (idle_read (overlaid_by false r.mark) d.control r.geometry one.0) new

@@ -12,7 +12,7 @@ use Rattle.vab_bootctl.specs.Control.{control_of}
 use Rattle.vab_marks.specs.declared.mark.MarkPhase.TheVariants as marks
 use Rattle.vab_marks.specs.declared.mark.UpdateMark.{UpdateMark}
 use Rattle.vab_marks.specs.declared.version.MarkVersion.TheVariants.{Two}
-use Rattle.vab_marks.specs.Mark.{mark_of, mark_spelling, overlaid_by, resloted}
+use Rattle.vab_marks.specs.Mark.{rephased, mark_of, mark_spelling, overlaid_by, resloted}
 use Rattle.vab_space.specs.declared.Chunk.TheVariants.{One}
 use Rattle.vab_exceptions.specs.declared.area.Exception.{Exception}
 use Rattle.vab_store.specs.Clean.{ends_clean}
@@ -66,6 +66,7 @@ use Rattle.vab_overlaying.proofs.HeadLaws.{not_own}
 use Rattle.vab_overlaying.proofs.HeadLaws.{of_images}
 use Rattle.vab_overlaying.proofs.OverlaidLaws.{apart_one}
 use Rattle.vab_device.proofs.StandsLaws.{read_at, StandsIdle, stands_idle}
+use Rattle.vab_device.proofs.ReadingLaws.{bare_known}
 
 -- ---- what is read then
 
@@ -300,7 +301,8 @@ module _
   reads_new : Reads size (over_read d.mark d.control d.geometry over.table over.over) new
   reads_new = record {
     enough = st.reads.enough;
-    mark = mark_there (overlaid_by true d.mark) new refl (refl, refl) read
+    mark = mark_there (overlaid_by true d.mark) new refl
+        (bare_known old (rephased marks.Idle d.mark) st.reads.mark) read
         (set_here mid 2048 (mark_spelling (overlaid_by true d.mark)) 2048 refl);
     statuses = no_statuses;
     control = control_seen_in (d.mark.slot == 0) (d.mark.slot == 1) new d.control control_new;

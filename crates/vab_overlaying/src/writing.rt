@@ -24,9 +24,7 @@ use vab_disk::Disk;
 use vab_gate::DiskFault;
 use vab_model::{Refusal, Reply};
 use vab_overlay::OverlayFault;
-
-/// Bytes of a block.
-const BLOCK: usize = 4096;
+use vab_space::BLOCK;
 
 // Writes a block over a partition, into its store.
 fn put_over<D: Disk>(

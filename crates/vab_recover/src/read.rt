@@ -93,7 +93,7 @@ fn settled(phase: MarkPhase) -> MarkPhase
     }
 }
 
-// The mark of these bytes, of a phase that a device may be in.
+// The mark of these bytes, of a phase that a device may be in, without physical partitions.
 fn known_mark(sector: &[u8; 512]) -> Result<UpdateMark, StartFault>
     ensures answers { Answers result (mark_read (mark_of sector.now)) }
     ensures kind { IfErr result IsOfContents }
@@ -102,11 +102,11 @@ fn known_mark(sector: &[u8; 512]) -> Result<UpdateMark, StartFault>
     ensures apart { IfOk result FlagsFit }
 {
     match decode_mark(sector) {
-        Ok(mark) => Ok(UpdateMark {
+        Ok(mark) if !mark.physical => Ok(UpdateMark {
             phase: settled(mark.phase),
             ..mark
         }),
-        Err(_) => Err(StartFault::BadMark(MARK_SECTOR)),
+        _ => Err(StartFault::BadMark(MARK_SECTOR)),
     }
 }
 

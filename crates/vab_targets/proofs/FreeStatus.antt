@@ -55,7 +55,7 @@ use Rattle.vab_device.specs.Phases.{no_store_check}
 use Rattle.vab_device.specs.Phases.{planned_image, planned_on, plan_of}
 use Rattle.vab_device.specs.Reading.{Read, kept, version_at, most_at, statuses_read, statuses_at}
 use Rattle.vab_device.specs.Flashed.{flash_effect, entry_effect, placed_effect, unwritten_effect}
-use Rattle.vab_device.specs.Flashed.{staged_effect, in_store, in_place}
+use Rattle.vab_device.specs.Flashed.{staged_effect, in_store, in_place, named_effect}
 use Rattle.vab_device.specs.Updates.{effect_on}
 use Rattle.vab_device.proofs.CheckLaws.{first_kept}
 use Rattle.vab_device.proofs.NamedParts.{named_in}
@@ -339,8 +339,17 @@ if_full false x done =
 refused : replies.Refused refusals.NotInstalling ≡ replies.Done → ⊥
 refused done = cc
 
+-- without physical partitions, of one of the plan
+named_bare : (m : Mounted) (source : ℕ) (plan : Plan) (k : Chunk) (staged : Option (List ℕ))
+    (base : List ℕ)
+    → m.state.physical ≡ []
+    → named_effect m source plan k staged base
+    ≡ entry_effect m source plan k staged (entry_named base plan.entries)
+named_bare m source plan k staged base bare = rw bare refl
+
 module _ (mark : UpdateMark) (statuses : List (Option PartStatus)) (scanned : List Scanned)
     (image : Image) (m : Mounted) (staged : Option (List ℕ)) (name : List ℕ) (chunk : Chunk)
+    (bare : m.state.physical ≡ [])
   where
     -- the plan of a target's layout
     abbrev plan_in : Layout → Plan
@@ -367,10 +376,11 @@ module _ (mark : UpdateMark) (statuses : List (Option PartStatus)) (scanned : Li
         let l : Layout = layout_of t in
         let own : List PartOfLayout = own_parts k l.parts in
         let plan : Plan = plan_in l in
-        let entry = entry_effect m slot plan chunk staged
-        (entry_named (base_of name) plan.entries) in
+        let entry = named_effect m slot plan chunk staged (base_of name) in
         let f = done_flashed m slot plan chunk staged image l scanned (base_of name) own
-        (if_full (is_full k name) entry done) in
+        (subst (λ (e : Effect Mounted). e.reply ≡ replies.Done)
+        (named_bare m slot plan chunk staged (base_of name) bare)
+        (if_full (is_full k name) entry done)) in
         elim (free_or_none image (partitions_under v)) [
           | inl free ↦
               (2049 + free.place, first_free image (partitions_under v) free (few_under v))
@@ -411,6 +421,6 @@ flash_finds_free size image m staged name chunk is done =
     subst (λ (e : Effect Mounted). e.reply ≡ replies.Done) (flash_by_blocks now staged name chunk)
     (subst (λ (x : Mounted). (effect_on x staged (Flash name chunk)).reply ≡ replies.Done) was.is
     done) in
-    by_phase r.mark r.statuses r.scanned image (mounted_on d image) staged name chunk
+    by_phase r.mark r.statuses r.scanned image (mounted_on d image) staged name chunk refl
     r.mark.phase r.tables (count_at d.a + count_at d.b) was.reads.parts was.reads.statuses
     was.reads.stores there

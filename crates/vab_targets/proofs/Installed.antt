@@ -162,6 +162,7 @@ pub record IsInstalled (m : Mounted) (source : ℕ) (plan : Plan) : Type 0 where
   pub update : IsUpdateBeside (other_slot source) (twins_by plan.apart s.parts) s t
   pub groups : groups_of_slot source s.groups ≡ groups_of_slot (other_slot source) t.groups
   pub limits : m.state.groups ≡ limits_of source s.groups
+  pub bare : m.state.physical ≡ []
   pub again : plan.entries ≡ plan_by (other_slot source) t plan.entries
   pub unwritten : plan.apart ≡ false
       → (name : List ℕ)
@@ -172,6 +173,11 @@ pub record IsInstalled (m : Mounted) (source : ℕ) (plan : Plan) : Type 0 where
 pub none_named : (o : Option (List ℕ)) → names_none o ≡ None → o ≡ None
 none_named None is = refl
 none_named (Some name) is = absurd cc
+
+-- no device has physical partitions yet
+bare_said : (r : Read) (image : Image) → (mounted_on (kept r) image).state.physical ≡ []
+unfolding state_on
+bare_said r image = refl
 
 module _
     (size : ℕ) (image : Image) (base : UpdateMark) (slot : ℕ)
@@ -413,6 +419,7 @@ module _
     update = update;
     groups = groups_are;
     limits = limits_are;
+    bare = bare_said r image;
     again = plan_again;
     unwritten = none_written;
   }

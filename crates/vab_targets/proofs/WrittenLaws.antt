@@ -20,7 +20,7 @@ use Rattle.vab_model.specs.declared.command.Reply.TheVariants as replies
 use Rattle.vab_model.specs.Commands.{Finish}
 use Rattle.vab_model.specs.Effects.{Effect, after_of}
 use Rattle.vab_model.specs.State.{images_at}
-use Rattle.vab_model.specs.Machine.{with_images, least_declared}
+use Rattle.vab_model.specs.Machine.{with_images, least_missing}
 use Rattle.vab_device.specs.Mounted.{Mounted}
 use Rattle.vab_device.specs.Reading.{IsIn}
 use Rattle.vab_device.specs.Updates.{effect_on, finish_effect, complete_effect, final_image}
@@ -132,10 +132,10 @@ pub finish_gives : (size : ℕ) (image : Image) (m : Mounted) (staged : Option (
     ≡ Some (map written_image plan.entries)
 finish_gives size image m staged source plan whole is phase apart done =
     let effect : finish_effect m m.state.phase
-    ≡ complete_effect m source plan (least_declared None plan.entries) =
+    ≡ complete_effect m source plan (least_missing m.state source plan) =
     ap (finish_effect m) phase in
     let same = all_written m.state source plan.entries
     (keeps_nothing size image m source plan whole is phase apart) in
     ap (λ (e : Effect Mounted). images_at (after_of m e).state (other_slot source)) effect
-    ∙ completed m source plan (least_declared None plan.entries) same
+    ∙ completed m source plan (least_missing m.state source plan) same
     (ap (λ (e : Effect Mounted). e.reply) (sym effect) ∙ done)

@@ -20,9 +20,9 @@ use Rattle.vab_device.specs.Reading.{Read, kept, device, SameRead, Represents, m
 use Rattle.vab_device.specs.Reading.{IsOfTables, settled, version_at}
 use Rattle.vab_device.proofs.Behind.{images_behind}
 use Rattle.vab_device.proofs.MarkLaws.{as_phase, mark_flags}
-use Rattle.vab_device.proofs.ReadingLaws.{reads_kept, device_same}
+use Rattle.vab_device.proofs.ReadingLaws.{reads_kept, device_same, read_from}
 use Rattle.vab_device.proofs.SameLaws.{control_same, geometry_same, tables_agree, images_same}
-use Rattle.vab_device.proofs.StayLaws.{copy_stays, copies_from}
+use Rattle.vab_device.proofs.StayLaws.{copy_stays, copies_from, bare_read}
 use Rattle.vab_device.proofs.StoreLaws.{statuses_kept}
 use Rattle.vab_tidy.specs.Tidied.{HasCompleted, is_completed}
 use Rattle.vab_tidy.specs.Tidied.{says_completed}
@@ -30,21 +30,12 @@ use Rattle.vab_device.proofs.StandsLaws.{StandsIdle, read_at}
 
 -- ---- the mark of a merge that has ended
 
--- a merge that has ended is read as no update
-pub completed_idle : (m : UpdateMark) (image : Image)
-    → HasCompleted m image
-    → mark_in image ≡ Ok (rephased marks.Idle m)
-unfolding mark_in
-completed_idle m image is = ap mark_read is
-
 -- what the disk was read with where a merge has ended
 pub completed_is : (k m : UpdateMark) (image : Image)
     → mark_in image ≡ Ok m
     → HasCompleted k image
     → m ≡ rephased marks.Idle k
-completed_is k m image read is =
-    let both : Ok m ≡ Ok (rephased marks.Idle k) = sym read ∙ completed_idle k image is in
-    cc
+completed_is k m image read is = (read_from image (rephased marks.Completed k) m read is).1
 
 completed_phase : (p : MarkPhase) → is_completed p ≡ true → p ≡ marks.Completed
 completed_phase marks.Idle is = absurd cc
@@ -61,24 +52,23 @@ completed_again k fits is =
     as_phase k marks.Completed fits refl is
 
 says_slot : (x : Result UpdateMark MarkFault) (m : UpdateMark)
-    → ((k : UpdateMark) → x ≡ Ok k → FlagsFit k)
-    → mark_read x ≡ Ok m
+    → ((k : UpdateMark) → x ≡ Ok k → FlagsFit k × (m ≡ record k { phase = settled k.phase }))
     → says_completed x ≡ true
     → x ≡ Ok (rephased marks.Completed m)
-says_slot (Ok k) m fits read is =
-    let same : record k { phase = settled k.phase } ≡ m = cc in
-    ap Ok (completed_again k (fits k refl) (completed_phase k.phase is))
-    ∙ ap (λ (x : UpdateMark). Ok (rephased marks.Completed x)) same
-says_slot (Err f) m fits read is = absurd cc
+says_slot (Ok k) m known is =
+    let of = known k refl in
+    ap Ok (completed_again k of.0 (completed_phase k.phase is))
+    ∙ ap (λ (x : UpdateMark). Ok (rephased marks.Completed x)) (sym of.1)
+says_slot (Err f) m known is = absurd cc
 
 -- the merge that has ended is that of the slot of the mark
 pub says_of : (m : UpdateMark) (image : Image)
     → mark_in image ≡ Ok m
     → says_completed (mark_of (image 2048)) ≡ true
     → HasCompleted m image
-unfolding mark_in
 says_of m image read is =
-    says_slot (mark_of (image 2048)) m (λ k there. mark_flags (image 2048) k there) read is
+    says_slot (mark_of (image 2048)) m
+    (λ k there. (mark_flags (image 2048) k there, (read_from image k m read there).1)) is
 
 pub says_none : (m : UpdateMark) (image : Image)
     → says_completed (mark_of (image 2048)) ≡ false
@@ -90,10 +80,11 @@ says_none m image not is =
 
 -- so is the mark of no update
 pub idle_there : (m : UpdateMark) (image : Image)
+    → m.physical ≡ false
     → mark_of (image 2048) ≡ Ok (rephased marks.Idle m)
     → mark_in image ≡ Ok (rephased marks.Idle m)
 unfolding mark_in
-idle_there m image is = ap mark_read is
+idle_there m image bare is = ap mark_read is ∙ bare_read (rephased marks.Idle m) bare
 
 -- the mark stays where copies of a table are written
 pub completed_stays : (g : Geometry) (slot n : ℕ) (m : UpdateMark) (old new : Image)

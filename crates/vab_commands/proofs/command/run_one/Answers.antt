@@ -6,7 +6,7 @@ use Rattle.vab_disk.proofs.CallLaws.{reads_none, touches_wider}
 use Rattle.vab_gate.specs.declared.gate.DiskFault.{DiskFault}
 use Rattle.vab_model.specs.declared.command.Command.{Command as CommandOfCode}
 use Rattle.vab_model.specs.declared.command.Reply.{Reply}
-use Rattle.vab_model.specs.Commands.{Command, command_of, Print, Digest, UpdateSuper}
+use Rattle.vab_model.specs.Commands.{Command, command_of, Print, Digest, UpdateSuper, Keep}
 use Rattle.vab_model.specs.Effects.{answers}
 use Rattle.vab_model.specs.Machine.{machine_effect}
 use Rattle.vab_device.specs.declared.device.Device.{Device}
@@ -150,6 +150,16 @@ returns-in-Print g c =
     (Print c.in-Print.name.now) c.print-reply.result c.args.d.now
     c.requires.kept c.requires.represents
     (λ t. c.print-reply.ensures (g.D.Disk.seen c.args.d.now))
+    (reads_none g.D.Disk c.args.d.now) refl)
+
+pub returns-in-Keep : goal.returns-in-Keep
+returns-in-Keep g c =
+    of g.D.Disk c.args.device (option_map (λ s. s.now) c.args.staged) c.args.d.now
+    c.args.command.now _ _ _ c.in-Keep.is
+    (still g.D.Disk c.args.device (option_map (λ s. s.now) c.args.staged) c.args.d.now
+    (Keep c.in-Keep.name.now) c.keep-reply.result c.args.d.now
+    c.requires.kept c.requires.represents
+    (λ t. c.keep-reply.ensures (g.D.Disk.seen c.args.d.now) (option_map (λ s. s.now) c.args.staged))
     (reads_none g.D.Disk c.args.d.now) refl)
 
 pub returns-in-BeginMerge : goal.returns-in-BeginMerge

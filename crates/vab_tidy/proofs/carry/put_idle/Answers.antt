@@ -23,6 +23,7 @@ use Rattle.vab_device.proofs.SlotTable.{has_table}
 use Rattle.vab_tidy.proofs.MarkLaws.{idle_there, marked_means, marked_represents}
 use Rattle.vab_device.proofs.StandsLaws.{StandsIdle, stands_idle}
 use Rattle.vab_tidy.proofs.carry.put_idle.Goals as goal
+use Rattle.vab_device.proofs.ReadingLaws.{bare_known}
 
 module _ {D : Type 0} (g : Ghosts D) (d : Device) (bytes : List ℕ) (old new : D)
     (dev : IsDevice d (g.size old))
@@ -46,18 +47,21 @@ module _ {D : Type 0} (g : Ghosts D) (d : Device) (bytes : List ℕ) (old new : 
   pub mark_now : mark_of (after 2048) ≡ Ok (rephased marks.Idle d.mark)
   mark_now = ap mark_of (set_here (g.seen old) 2048 bytes 2048 refl) ∙ read
 
-  mark : mark_in after ≡ Ok (rephased marks.Idle d.mark)
-  mark = idle_there d.mark after mark_now
+  mark : g.is_modelled → mark_in after ≡ Ok (rephased marks.Idle d.mark)
+  mark t = idle_there d.mark after bare mark_now
+    where
+      bare : d.mark.physical ≡ false
+      bare = bare_known (g.seen old) (rephased marks.Idle d.mark) (st t).reads.mark
 
   version : version_at after ≡ Two
   version = ap version_in (set_here (g.seen old) 2048 bytes 2048 refl) ∙ two
 
   means : g.is_modelled → device (g.size old) after ≡ device (g.size old) (g.seen old)
-  means t = marked_means d (g.size old) (g.seen old) own.0 (st t) after elsewhere mark
+  means t = marked_means d (g.size old) (g.seen old) own.0 (st t) after elsewhere (mark t)
       version
 
   represents : g.is_modelled → Represents d (g.size old) after
-  represents t = marked_represents d (g.size old) (g.seen old) own.0 (st t) after elsewhere mark
+  represents t = marked_represents d (g.size old) (g.seen old) own.0 (st t) after elsewhere (mark t)
       version
 
   time : (g.is_modelled
