@@ -25,7 +25,7 @@ use Rattle.vab_model.specs.Effects.{steps_of, last_of, after_of, if_plain}
 use Rattle.vab_model.specs.declared.state.Overlay.{Overlay as OverlayOf}
 use Rattle.vab_session.proofs.OverlayLaws.{if_either}
 use Rattle.vab_model.specs.State.{images_at, has_images}
-use Rattle.vab_model.specs.Machine.{with_images, exceptions_in, least_declared}
+use Rattle.vab_model.specs.Machine.{with_images, exceptions_in, least_missing}
 use Rattle.vab_device.specs.Mounted.{Mounted, in_state}
 use Rattle.vab_device.specs.Reading.{IsIn}
 use Rattle.vab_device.specs.Updates.{effect_on, begin_effect, EditOf, Guard, edit_effect}
@@ -163,7 +163,7 @@ module _ (m : Mounted) where
       → AllRun (finish_effect x phase).later
   finish_by x Idle at runs y is = absurd is
   finish_by x (Installing source plan) at runs y is =
-      completes x source plan (least_declared None plan.entries) at runs y is
+      completes x source plan (least_missing x.state source plan) at runs y is
   finish_by x (Staged source left) at runs y is = absurd is
   finish_by x (Merging target left) at runs y is = absurd is
 

@@ -29,6 +29,7 @@ use Rattle.vab_model.specs.Effects.{digest_effect, active_effect, effect_map, Is
 use Rattle.vab_model.specs.Machine.{machine_effect, cancelled as cancelled_state}
 use Rattle.vab_model.specs.Effects.{after_of, does}
 use Rattle.vab_model.specs.Machine.{with_images, without_images, declared_name, least_declared}
+use Rattle.vab_model.specs.Machine.{least_missing, least_blank}
 use Rattle.vab_model.specs.Machine.{exceptions_in}
 use Rattle.vab_model.specs.Machine.{turns as turns_of}
 use Rattle.vab_device.specs.Mounted.{Mounted, in_state}
@@ -44,6 +45,8 @@ use Rattle.vab_model.specs.Kinds.{changes_images}
 use Rattle.vab_boots.specs.Images.{IsReady, Finishes, Cancels, SameImages}
 use Rattle.vab_boots.proofs.Begins.{refused_not, tested}
 use Rattle.vab_boots.proofs.Planned.{IsPlanned, begin_planned, edit_planned, flash_planned}
+use Rattle.vab_device.proofs.HeldLaws.{keep_makes}
+use Rattle.vab_model.specs.Commands.{Keep}
 
 -- ---- two slots
 
@@ -92,6 +95,17 @@ are_ready (e ∷ es) none =
     let first = first_ready e.name e.image es none in
     All-cons (λ (e : PlanEntry). IsReady e.image) e es first.0 (are_ready es first.1)
 
+all_ready : (s : State) (source : ℕ) (plan : Plan)
+    → least_missing s source plan ≡ None
+    → All (λ (e : PlanEntry). IsReady e.image) plan.entries
+all_ready s source plan = by (least_blank (other_slot source) None s.physical)
+  where
+    by : (blank : Option (List ℕ))
+        → least_declared blank plan.entries ≡ None
+        → All (λ (e : PlanEntry). IsReady e.image) plan.entries
+    by None none = are_ready plan.entries none
+    by (Some name) none = absurd (never_none name plan.entries none)
+
 given : (s : State) (slot : ℕ) (images : List ImageOfSlot) (phase : Phase)
     → images_at (record (with_images s slot images) { phase = phase }) slot ≡ Some images
 given s slot images phase = elim (cases_Bool (eqb slot 0)) [
@@ -109,7 +123,7 @@ kept_beside s source images phase = elim (cases_Bool (eqb source 0)) [
 
 finishes_by : (m : Mounted) (source : ℕ) (plan : Plan) (o : Option (List ℕ))
     → m.state.phase ≡ Installing source plan
-    → least_declared None plan.entries ≡ o
+    → least_missing m.state source plan ≡ o
     → (complete_effect m source plan o).reply ≡ replies.Done
     → Finishes m (after_of m (complete_effect m source plan o))
 finishes_by m source plan None was none done =
@@ -119,7 +133,7 @@ finishes_by m source plan None was none done =
       source = source;
       plan = plan;
       was = was;
-      ready = are_ready plan.entries none;
+      ready = all_ready m.state source plan none;
       staged = refl;
       target = given m.state (other_slot source) images phase;
       kept = kept_beside m.state source images phase;
@@ -133,7 +147,7 @@ finish_by : (m : Mounted) (phase : Phase)
     → Finishes m (after_of m (finish_effect m phase))
 finish_by m Idle was done = refused_not refusals.NotInstalling done
 finish_by m (Installing source plan) was done =
-    finishes_by m source plan (least_declared None plan.entries) was refl done
+    finishes_by m source plan (least_missing m.state source plan) was refl done
 finish_by m (Staged source left) was done = refused_not refusals.NotInstalling done
 finish_by m (Merging target left) was done = refused_not refusals.NotInstalling done
 
@@ -272,6 +286,9 @@ module _ (m : Mounted) where
   same_by staged (Snapshot name size) other = edits store_guard (snapshot_edit name size)
   same_by staged (Flash name chunk) other =
       λ x is. planned x _ (flash_planned m staged name chunk x is)
+  same_by staged (Keep name) other =
+      keep_makes m (λ x. AreSame x.later) (λ r. none)
+      (λ ps. one _ (record { a = refl; b = refl })) staged name
   same_by staged (Merge blocks) other = merges blocks m.state.phase
   same_by staged (Overlay name size) other =
       overlay_makes m AreSame none (λ o. one _ (record { a = refl; b = refl })) staged name size

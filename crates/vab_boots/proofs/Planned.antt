@@ -1,6 +1,6 @@
 -- Of a state, the begin of an update, its edits and its images change the plan alone.
 use Rattle.std.proofs.Common.{◌≡◌, ℕ, ◌*◌, inl, inr, Bool, true, false, cond, List, [], ◌∷◌}
-use Rattle.std.proofs.Common.{length, Option, Some, None, Result, Ok, Err, refl, sym, subst}
+use Rattle.std.proofs.Common.{length, Option, Some, None, Result, Ok, Err, refl, sym, ap, subst}
 use Rattle.std.specs.Prelude.{nat_lt, nat_le}
 use Rattle.vab_names.specs.Names.{is_full, base_of}
 use Rattle.vab_space.specs.declared.Chunk.{Chunk}
@@ -14,26 +14,33 @@ use Rattle.vab_model.specs.declared.state.PlanEntry.{PlanEntry}
 use Rattle.vab_model.specs.declared.state.Plan.{Plan}
 use Rattle.vab_model.specs.declared.state.Phase.{Phase}
 use Rattle.vab_model.specs.declared.state.Phase.TheVariants.{Idle, Installing, Staged, Merging}
+use Rattle.vab_model.specs.declared.state.Physical.{Physical}
 use Rattle.vab_model.specs.declared.command.Refusal.{Refusal}
 use Rattle.vab_model.specs.declared.command.Refusal.TheVariants as refusals
 use Rattle.vab_model.specs.Commands.{Flash}
 use Rattle.vab_model.specs.Effects.{Effect, IsOneOf, refuses, wanting}
+use Rattle.vab_model.specs.Physical.{is_physical, physical_named}
 use Rattle.vab_model.specs.Plans.{entry_named, with_entries}
 use Rattle.vab_model.specs.Staged.{is_sparse}
 use Rattle.vab_device.specs.Mounted.{Mounted}
 use Rattle.vab_device.specs.Flashed.{staged_effect, unwritten_effect, in_store, in_place}
 use Rattle.vab_device.specs.Flashed.{placed_effect, entry_effect, flash_effect, if_room, flashed}
 use Rattle.vab_device.specs.Flashed.{with_image, filled, differences, source_bytes}
+use Rattle.vab_device.specs.Flashed.{named_effect, physical_effect}
 use Rattle.vab_device.specs.Updates.{table_effect, replanned, no_entries, begun_effect}
 use Rattle.vab_device.specs.Updates.{begin_effect, layout_at, EditOf, edited_effect, Guard}
 use Rattle.vab_device.specs.Updates.{unless_kept, edit_effect, effect_on}
 use Rattle.vab_device.proofs.FlashedLaws.{flash_by_blocks}
+use Rattle.vab_device.proofs.HeldLaws.{held_in, physical_makes}
 use Rattle.vab_boots.specs.Boots.{worked_of}
 
--- An update from this slot is installed, with this plan. Nothing else of the state has changed.
+-- An update from this slot is installed, with this plan, and the physical partitions hold this.
+-- Nothing else of the state has changed.
 pub record IsPlanned (source : ℕ) (m next : Mounted) : Type 0 where
   pub plan : Plan
-  pub state : next.state ≡ record m.state { phase = Installing source plan }
+  pub physical : List Physical
+  pub state : next.state
+      ≡ record m.state { phase = Installing source plan; physical = physical }
 
 module _ (m : Mounted) where
   -- each of these
@@ -59,7 +66,8 @@ module _ (m : Mounted) where
   tabled : (source : ℕ) (plan : Plan) (r : Result Layout EditFault)
       → ArePlanned source (table_effect m source plan r).later
   tabled source plan (Ok l) =
-      one source _ (record { plan = replanned source plan l; state = refl })
+      one source _
+      (record { plan = replanned source plan l; physical = m.state.physical; state = refl })
   tabled source plan (Err fault) = none source
 
   begun : (apart : Bool) (source : ℕ) (l : Option Layout)
@@ -110,6 +118,7 @@ module _ (m : Mounted) where
       one source _ (record {
         plan = with_entries plan
             (with_image e.name (Written (filled staged e.blocks) n) plan.entries);
+        physical = m.state.physical;
         state = refl;
       })
 
@@ -165,19 +174,45 @@ module _ (m : Mounted) where
   found source plan k staged None = none source
   found source plan k staged (Some e) = placed source plan e k staged e.store
 
+  -- the physical partitions hold something else
+  holds : (source : ℕ) (plan : Plan) (ps : List Physical)
+      → m.state.phase ≡ Installing source plan
+      → ArePlanned source (held_in m ps ∷ [])
+  holds source plan ps is =
+      one source (held_in m ps) (record {
+        plan = plan;
+        physical = ps;
+        state = ap (λ (p : Phase). record m.state { phase = p; physical = ps }) is;
+      })
+
+  held : (source : ℕ) (plan : Plan) (target : ℕ) (staged : Option (List ℕ)) (p : Option Physical)
+      → m.state.phase ≡ Installing source plan
+      → ArePlanned source (physical_effect m target staged p).later
+  held source plan target staged p is =
+      physical_makes m (λ e. ArePlanned source e.later) (λ r. none source)
+      (λ ps. holds source plan ps is) target staged p
+
   flashes : (staged : Option (List ℕ)) (name : List ℕ) (k : Chunk) (phase : Phase)
+      → m.state.phase ≡ phase
       → ArePlanned (worked_of phase m.state.control.current)
       (flash_effect m staged name k phase).later
-  flashes staged name k Idle = none m.state.control.current
-  flashes staged name k (Installing source plan) =
-      let e : Option PlanEntry = entry_named (base_of name) plan.entries in
-      either source (is_full (other_slot source) name)
-      (entry_effect m source plan k staged e)
+  flashes staged name k Idle is = none m.state.control.current
+  flashes staged name k (Installing source plan) is =
+      let base : List ℕ = base_of name in
+      let target : ℕ = other_slot source in
+      let p : Option Physical = physical_named base m.state.physical in
+      let e : Option PlanEntry = entry_named base plan.entries in
+      either source (is_full target name)
+      (named_effect m source plan k staged base)
       (refuses refusals.BadName)
-      (found source plan k staged e)
+      (either source (is_physical base m.state.physical)
+      (physical_effect m target staged p)
+      (entry_effect m source plan k staged e)
+      (held source plan target staged p is)
+      (found source plan k staged e))
       (none source)
-  flashes staged name k (Staged source left) = none source
-  flashes staged name k (Merging target left) = none target
+  flashes staged name k (Staged source left) is = none source
+  flashes staged name k (Merging target left) is = none target
 
   pub flash_planned : (staged : Option (List ℕ)) (name : List ℕ) (k : Chunk)
       → ArePlanned (worked_of m.state.phase m.state.control.current)
@@ -187,4 +222,4 @@ module _ (m : Mounted) where
       (λ (e : Effect Mounted).
       ArePlanned (worked_of m.state.phase m.state.control.current) e.later)
       (sym (flash_by_blocks m staged name k))
-      (flashes staged name k m.state.phase)
+      (flashes staged name k m.state.phase refl)

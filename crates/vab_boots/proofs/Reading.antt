@@ -1,7 +1,8 @@
 -- What the begin of an overlay and the writes behind it make of a device is read as it was written.
 use Rattle.std.proofs.Common.{◌≡◌, ◌∙◌, ℕ, ◌+◌, true, false, List, [], ◌∷◌, ◌++◌, length}
 use Rattle.std.proofs.Common.{Option, Some, None, Result, Ok, Err, refl, sym, ap, subst, arith}
-use Rattle.std.specs.Prelude.{Bool, All, ◌==◌, nat_lt, nat_le}
+use Rattle.std.specs.Prelude.{Bool, All, ◌==◌, nat_lt, nat_le, not}
+use Rattle.vab_model.specs.Physical.{is_physical}
 use Rattle.std.proofs.lemmas.Bool.{eqb-true, ltb-true}
 use Rattle.std.proofs.lemmas.List.Elements.{All-head, All-tail, All-cons, All-nil}
 use Rattle.vab_names.specs.Names.{is_full, base_of}
@@ -229,7 +230,9 @@ module _ (m : Mounted) (name : List ℕ) where
       → Begins (overlay_begun m name size phase)
   by_phase size Idle idle =
       begins_unless (is_full slot name) refusals.BadName _
-      (begins_unless (is_store_size size) refusals.BadSize _ (by_image size found idle refl))
+      (begins_unless (is_store_size size) refusals.BadSize _
+      (begins_unless (not (is_physical (base_of name) m.state.physical)) refusals.Physical _
+      (by_image size found idle refl)))
   by_phase size (Installing source plan) other = refused_not refusals.NotIdle
   by_phase size (Staged source left) other = refused_not refusals.NotIdle
   by_phase size (Merging target left) other = refused_not refusals.NotIdle

@@ -83,6 +83,7 @@ fn done_line(command: &Command, current: usize, left: u64, out: &mut Line)
         | Command::Delete(_)
         | Command::Snapshot(_, _)
         | Command::Flash(_, _)
+        | Command::Keep(_)
         | Command::Finish
         | Command::Merge(_)
         | Command::UpdateSuper

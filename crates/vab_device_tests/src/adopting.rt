@@ -91,6 +91,7 @@ fn an_update_that_is_dropped_is_answered(rt: HostRuntime) -> Result<(), Fail> {
             slot,
             apart: false,
             overlaid: false,
+            physical: false,
         };
         let dropped = if is_dropped { Some(mark) } else { None };
         let adopted = adopted_over(alloc, mark)?;

@@ -90,6 +90,7 @@ fn mark(phase: MarkPhase) -> [u8; 512] {
         slot: 0,
         apart: false,
         overlaid: false,
+        physical: false,
     })
 }
 
@@ -100,6 +101,7 @@ fn overlaid_mark() -> [u8; 512] {
         slot: 0,
         apart: false,
         overlaid: true,
+        physical: false,
     })
 }
 

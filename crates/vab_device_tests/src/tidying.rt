@@ -31,6 +31,7 @@ fn idle(slot: usize) -> Option<UpdateMark> {
         slot,
         apart: false,
         overlaid: false,
+        physical: false,
     })
 }
 
@@ -107,6 +108,7 @@ fn a_merge_that_has_ended_is_tidied_once(rt: HostRuntime) -> Result<(), Fail> {
         slot: 1,
         apart: false,
         overlaid: false,
+        physical: false,
     };
     assert!(rt; mark_of(&mut d) == Some(completed));
     // The table is stored, each copy with its syncs, and the mark by one gate.
@@ -190,6 +192,7 @@ fn a_table_that_would_not_fit_is_left(rt: HostRuntime) -> Result<(), Fail> {
         slot: 0,
         apart: false,
         overlaid: false,
+        physical: false,
     });
     let sectors = [
         (4, control(0, 15, true)),

@@ -63,6 +63,7 @@ fn version(d: &mut MemPort) -> Option<MarkVersion> {
         slot: 0,
         apart: false,
         overlaid: false,
+        physical: false,
     };
     let bytes = sector(d, MARK)?;
     if decode_mark(&bytes) == Ok(merging) {

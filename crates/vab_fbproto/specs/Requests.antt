@@ -6,6 +6,7 @@ use Rattle.std.specs.List.{list_any}
 use Rattle.std.specs.Str.{bytes_eq}
 use Rattle.vab_space.specs.declared.Chunk.{Chunk}
 use Rattle.vab_space.specs.declared.Chunk.TheVariants.{One, Two, Four}
+use Rattle.vab_model.specs.Commands.{Keep}
 use Rattle.vab_model.specs.Commands.{Command, SetActive, Boot, Mark, Digest, Begin, Create, Resize}
 use Rattle.vab_model.specs.Commands.{Delete, Snapshot, Flash, Finish, Cancel, BeginMerge}
 use Rattle.vab_model.specs.Commands.{Merge, Factory, UpdateSuper, Overlay, OverlayWrite}
@@ -321,6 +322,8 @@ asked_oem word rest =
     then asks (λ p. Do (Snapshot p.0 p.1)) (blank_argument rest)
     else if bytes_eq word (codes "oem flash")
     then asks (λ p. Do (Flash p.0 p.1)) (chunk_argument rest)
+    else if bytes_eq word (codes "oem keep")
+    then asks (λ name. Do (Keep name)) (name_argument rest)
     else if bytes_eq word (codes "oem digest")
     then asks (λ name. Do (Digest name)) (name_argument rest)
     else asked_overlay word rest

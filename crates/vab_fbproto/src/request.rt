@@ -209,6 +209,8 @@ fn read_oem<'a>(word: &[u8], rest: Option<&'a [u8]>) -> Result<Request<'a>, BadC
     } else if word == b"oem flash".as_slice() {
         let (name, chunk) = chunk_argument(rest)?;
         Ok(Request::Do(Command::Flash(name, chunk)))
+    } else if word == b"oem keep".as_slice() {
+        Ok(Request::Do(Command::Keep(name_argument(rest)?)))
     } else if word == b"oem digest".as_slice() {
         Ok(Request::Do(Command::Digest(name_argument(rest)?)))
     } else {

@@ -30,7 +30,7 @@ use Rattle.vab_model.specs.Effects.{digest_effect, active_effect, effect_map, Is
 use Rattle.vab_model.specs.Machine.{machine_effect, unless, cancelled as cancelled_state}
 use Rattle.vab_model.specs.Machine.{merging_from as merging_state}
 use Rattle.vab_model.specs.Effects.{does, after_of, last_of}
-use Rattle.vab_model.specs.Machine.{without_images, with_images, least_declared}
+use Rattle.vab_model.specs.Machine.{without_images, with_images, least_missing}
 use Rattle.vab_device.specs.Mounted.{Mounted, Places, in_state}
 use Rattle.vab_device.specs.Flashed.{flash_effect}
 use Rattle.vab_device.specs.Updates.{effect_on, begin_effect, EditOf, Guard, edit_effect}
@@ -57,6 +57,9 @@ use Rattle.vab_rounds.specs.Finished.{IsStagedFor, IsReadyFor, HasGiven, IsDropp
 use Rattle.vab_rounds.specs.Finished.{IsFinished, given_by, until_moment}
 use Rattle.vab_rounds.proofs.Ended.{merges_have_ended}
 use Rattle.vab_rounds.proofs.Lasting.{lasts_from}
+use Rattle.vab_model.specs.declared.state.Physical.{Physical}
+use Rattle.vab_model.specs.Commands.{Keep}
+use Rattle.vab_device.proofs.HeldLaws.{held_in, keep_makes}
 
 -- a boot goes to one of the two slots
 boot_below : (s : State) (o : Option ℕ)
@@ -261,6 +264,13 @@ module _ (slot : ℕ) (images : List ImageOfSlot) where
       one m (over m o) (inl is)
       (inl (record { below = is.below; runs = is.runs; has = is.has; ready = is.ready }))
 
+  with_held : (m : Mounted) (ps : List Physical)
+      → IsReadyFor slot images m
+      → Makes m (held_in m ps ∷ [])
+  with_held m ps is =
+      one m (held_in m ps) (inl is)
+      (inl (record { below = is.below; runs = is.runs; has = is.has; ready = is.ready }))
+
   -- dropped: the target has no images any more
   dropped : (m : Mounted) (from : ℕ)
       → from ≡ other_slot slot
@@ -370,6 +380,9 @@ module _ (slot : ℕ) (images : List ImageOfSlot) where
       subst (λ (e : Effect Mounted). Makes m e.later)
       (sym (flash_by_blocks m staged name chunk))
       (flashes m staged name chunk m.state.phase is.ready is)
+  ready_makes m staged (Keep name) is =
+      keep_makes m (λ x. Makes m x.later) (λ r. nothing m (inl is)) (λ ps. with_held m ps is)
+      staged name
   ready_makes m staged Finish is = finishes m m.state.phase is.ready is
   ready_makes m staged Cancel is = cancels m m.state.phase is.ready is
   ready_makes m staged BeginMerge is = merge_begins m m.state.phase is.ready is
@@ -440,11 +453,11 @@ behind_finish : (before next : Mounted) (from : ℕ) (plan : Plan)
     → HasGiven (other_slot from) (given_by before from plan) next
 behind_finish before next from plan is =
     let effect_is : effect_on before is.staged Finish
-    ≡ complete_effect before from plan (least_declared None plan.entries) =
+    ≡ complete_effect before from plan (least_missing before.state from plan) =
     ap (finish_effect before) is.was in
     subst (HasGiven (other_slot from) (given_by before from plan))
     (sym (is.is ∙ ap (after_of before) effect_is))
-    (completes before from plan (least_declared None plan.entries) is.alone.below
+    (completes before from plan (least_missing before.state from plan) is.alone.below
     (subst (λ (n : ℕ). n < 2) (sym is.alone.current) is.alone.below)
     (ap (λ (e : Effect Mounted). e.reply) (sym effect_is) ∙ is.done))
 

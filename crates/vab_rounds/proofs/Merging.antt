@@ -56,6 +56,8 @@ use Rattle.vab_rounds.specs.Merges.{BeginNone, turns_before, turns_asked, turns_
 use Rattle.vab_rounds.specs.Merges.{turns_by_all, IsMerged}
 use Rattle.vab_rounds.proofs.Folding.{cut_steps, reached_steps}
 use Rattle.vab_rounds.proofs.Lasting.{lasts}
+use Rattle.vab_device.proofs.HeldLaws.{keep_makes}
+use Rattle.vab_model.specs.Commands.{Keep}
 
 -- A merge has ended, or so many are left that those that were asked for fit beside them.
 abbrev pub IsDue : (left asked : ℕ) → Phase → Type 0
@@ -236,6 +238,8 @@ module _ (left : ℕ) where
       subst (λ (e : Effect Mounted). AreDue asked e.later)
       (sym (flash_by_blocks m staged name chunk))
       (flashes asked m staged name chunk m.state.phase is)
+  command_steps asked m staged (Keep name) other is =
+      keep_makes m (λ x. AreDue asked x.later) (λ r. none asked) (λ ps. one asked _ is) staged name
   command_steps asked m staged Cancel other is = cancels asked m m.state.phase is
   command_steps asked m staged BeginMerge other is = merge_begins asked m m.state.phase is
   command_steps asked m staged (Merge blocks) other is = merges asked m blocks m.state.phase is

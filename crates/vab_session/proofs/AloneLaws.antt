@@ -66,6 +66,11 @@ use Rattle.vab_session.specs.Responses.{response, left_of}
 use Rattle.vab_session.proofs.OverlayLaws.{if_either, over, overlay_makes, write_makes}
 use Rattle.vab_session.proofs.OverlayLaws.{discard_makes}
 use Rattle.vab_bootctl.proofs.BootLaws.{activated_current, marked_current}
+use Rattle.vab_device.proofs.HeldLaws.{held_in, physical_makes, keep_makes}
+use Rattle.vab_device.specs.Flashed.{named_effect, physical_effect}
+use Rattle.vab_model.specs.Physical.{is_physical, physical_named}
+use Rattle.vab_model.specs.declared.state.Physical.{Physical}
+use Rattle.vab_model.specs.Commands.{Keep}
 
 -- a packet that ends an installation, or wipes the slot
 abbrev pub asks_end : Result Asked BadCommand → Bool
@@ -313,17 +318,35 @@ module _ (slot : ℕ) (images : List ImageOfSlot) where
   found m source plan k staged None at is = none
   found m source plan k staged (Some e) at is = placed m source plan e k staged e.store at is
 
+  with_held : (m : Mounted) (ps : List Physical)
+      → IsAlone slot images m
+      → IsAlone slot images (held_in m ps)
+  with_held m ps is = record {
+    below = is.below;
+    current = is.current;
+    has = is.has;
+    other = is.other;
+    unready = is.unready;
+  }
+
   flashes : (m : Mounted) (staged : Option (List ℕ)) (name : List ℕ) (k : Chunk) (phase : Phase)
       → IsUnready slot phase
       → IsAlone slot images m
       → AreAlone (flash_effect m staged name k phase).later
   flashes m staged name k Idle unready is = none
   flashes m staged name k (Installing source plan) unready is =
-      let e : Option PlanEntry = entry_named (base_of name) plan.entries in
+      let base : List ℕ = base_of name in
+      let p : Option Physical = physical_named base m.state.physical in
+      let e : Option PlanEntry = entry_named base plan.entries in
       either (is_full (other_slot source) name)
-      (entry_effect m source plan k staged e)
+      (named_effect m source plan k staged base)
       (refuses refusals.BadName)
-      (found m source plan k staged e unready is)
+      (either (is_physical base m.state.physical)
+      (physical_effect m (other_slot source) staged p)
+      (entry_effect m source plan k staged e)
+      (physical_makes m (λ x. AreAlone x.later) (λ r. none) (λ ps. one _ (with_held m ps is))
+      (other_slot source) staged p)
+      (found m source plan k staged e unready is))
       none
   flashes m staged name k (Staged source left) unready is = none
   flashes m staged name k (Merging target left) unready is = none
@@ -471,6 +494,9 @@ module _ (slot : ℕ) (images : List ImageOfSlot) where
       subst (λ (e : Effect Mounted). AreAlone e.later)
       (sym (flash_by_blocks m staged name chunk))
       (flashes m staged name chunk m.state.phase is.unready is)
+  alone_effect m staged (Keep name) other is =
+      keep_makes m (λ x. AreAlone x.later) (λ r. none) (λ ps. one _ (with_held m ps is)) staged
+      name
   alone_effect m staged Finish other is = absurd cc
   alone_effect m staged Cancel other is = cancels m m.state.phase is.unready is
   alone_effect m staged BeginMerge other is = merge_begins m m.state.phase is.unready

@@ -1,7 +1,8 @@
 -- What the commands of an overlay make of a device: nothing, or it with another overlay.
 use Rattle.std.proofs.Common.{ℕ, Bool, true, false, List, [], ◌∷◌, length, Option, Some, None}
 use Rattle.std.proofs.Common.{Result, Ok, Err}
-use Rattle.std.specs.Prelude.{◌+◌, ◌==◌, nat_le, nat_lt}
+use Rattle.std.specs.Prelude.{◌+◌, ◌==◌, nat_le, nat_lt, not}
+use Rattle.vab_model.specs.Physical.{is_physical}
 use Rattle.vab_names.specs.Names.{is_full, base_of}
 use Rattle.vab_space.specs.Space.{need_of}
 use Rattle.vab_layout.specs.declared.layout.Layout.{Layout}
@@ -18,7 +19,7 @@ use Rattle.vab_model.specs.Effects.{Effect, refuses, if_plain, effect_map}
 use Rattle.vab_model.specs.Machine.{machine_effect}
 use Rattle.vab_model.specs.Over.{written_over, blank_overlay}
 use Rattle.vab_model.specs.Overlay.{unless, with_overlay, write_row, write_staged, discard_row}
-use Rattle.vab_model.specs.Overlay.{if_room, overlay_image, overlay_effect, store_of_size}
+use Rattle.vab_model.specs.Overlay.{if_room, overlay_image, store_of_size}
 use Rattle.vab_model.specs.Overlay.{used_over, is_store_size}
 use Rattle.vab_model.specs.Plans.{blocks_in, images_of}
 use Rattle.vab_model.specs.State.{image_named}
@@ -89,11 +90,14 @@ module _ (m : Mounted) (P : List Mounted → Type 0) (nothing : P [])
       let image : Option ImageOfSlot = image_named (base_of name) (images_of m.state current) in
       let found : Effect Mounted =
       overlay_image m.state.cap (images_of m.state current) size next image in
+      let logical : Bool = not (is_physical (base_of name) m.state.physical) in
+      let named : Effect Mounted = unless logical refusals.Physical found in
       unless_makes (is_full current name) refusals.BadName
-      (unless (is_store_size size) refusals.BadSize found)
-      (unless_makes (is_store_size size) refusals.BadSize found
+      (unless (is_store_size size) refusals.BadSize named)
+      (unless_makes (is_store_size size) refusals.BadSize named
+      (unless_makes logical refusals.Physical found
       (by_image (images_of m.state current) size next
-      (by_table name current (layout_at m.places current)) image))
+      (by_table name current (layout_at m.places current)) image)))
   by_phase name size (Installing source plan) = nothing
   by_phase name size (Staged source left) = nothing
   by_phase name size (Merging target left) = nothing

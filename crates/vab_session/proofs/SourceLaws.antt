@@ -30,7 +30,7 @@ use Rattle.vab_model.specs.Machine.{machine_effect, unless, cancelled as cancell
 use Rattle.vab_model.specs.Machine.{merging_from as merging_state}
 use Rattle.vab_model.specs.Effects.{does}
 use Rattle.vab_model.specs.Kinds.{ends_alone}
-use Rattle.vab_model.specs.Machine.{without_images, with_images, least_declared}
+use Rattle.vab_model.specs.Machine.{without_images, with_images, least_missing}
 use Rattle.vab_device.specs.Mounted.{Mounted, Places, in_state}
 use Rattle.vab_device.specs.Reading.{IsIn}
 use Rattle.vab_device.specs.Flashed.{flash_effect}
@@ -54,6 +54,9 @@ use Rattle.vab_session.proofs.AloneLaws.{alone_effect}
 use Rattle.vab_session.proofs.StandLaws.{end_only}
 use Rattle.vab_session.proofs.UntilLaws as until
 use Rattle.vab_session.proofs.WipeLaws.{not_wiped, wipe_makes, wipe_refused}
+use Rattle.vab_model.specs.declared.state.Physical.{Physical}
+use Rattle.vab_model.specs.Commands.{Keep}
+use Rattle.vab_device.proofs.HeldLaws.{held_in, keep_makes}
 
 -- these images for the other slot leave those of this one
 with_other : (s : State) (own : ℕ) (given : List ImageOfSlot)
@@ -174,7 +177,7 @@ module _ (slot : ℕ) (images : List ImageOfSlot) (Stops : Mounted → Type 0)
       → Makes m (finish_effect m phase).later
   finishes m Idle is alone = nothing m (inl alone)
   finishes m (Installing source plan) is alone =
-      completes m source plan (least_declared None plan.entries) is alone
+      completes m source plan (least_missing m.state source plan) is alone
   finishes m (Staged source left) is alone = nothing m (inl alone)
   finishes m (Merging target left) is alone = nothing m (inl alone)
 
@@ -319,6 +322,13 @@ module _ (slot : ℕ) (images : List ImageOfSlot) (Stops : Mounted → Type 0)
       one m (over m o) (inr is)
       (inr (record { below = is.below; has = is.has; ready = is.ready }))
 
+  with_held : (m : Mounted) (ps : List Physical)
+      → IsReadyFrom slot images m
+      → Makes m (held_in m ps ∷ [])
+  with_held m ps is =
+      one m (held_in m ps) (inr is)
+      (inr (record { below = is.below; has = is.has; ready = is.ready }))
+
   pub ready_makes : (m : Mounted) (staged : Option (List ℕ)) (c : Command)
       → IsReadyFrom slot images m
       → Makes m (effect_on m staged c).later
@@ -350,6 +360,9 @@ module _ (slot : ℕ) (images : List ImageOfSlot) (Stops : Mounted → Type 0)
       subst (λ (e : Effect Mounted). Makes m e.later)
       (sym (flash_by_blocks m staged name chunk))
       (flashes m staged name chunk m.state.phase is.ready is)
+  ready_makes m staged (Keep name) is =
+      keep_makes m (λ x. Makes m x.later) (λ r. nothing m (inr is)) (λ ps. with_held m ps is)
+      staged name
   ready_makes m staged Finish is = finished_again m m.state.phase is.ready is
   ready_makes m staged Cancel is = cancels m m.state.phase is.ready is
   ready_makes m staged BeginMerge is = merge_begins m m.state.phase is.ready is

@@ -9,7 +9,7 @@ use Rattle.vab_model.specs.declared.state.Phase.{Phase}
 use Rattle.vab_model.specs.declared.state.Phase.TheVariants.{Installing, Staged}
 use Rattle.vab_model.specs.Commands.{Command, Finish, UpdateSuper}
 use Rattle.vab_model.specs.Kinds.{ends_alone}
-use Rattle.vab_model.specs.Machine.{least_declared}
+use Rattle.vab_model.specs.Machine.{least_missing}
 use Rattle.vab_device.specs.Mounted.{Mounted}
 use Rattle.vab_device.specs.Reading.{IsIn}
 use Rattle.vab_device.specs.Updates.{effect_on, finish_effect, complete_effect}
@@ -56,7 +56,7 @@ module _ (slot : ℕ) (images : List ImageOfSlot) where
 
   finishes : (m : Mounted) (phase : Phase) → Stands m → Makes m (finish_effect m phase).later
   finishes m (Installing source plan) stands =
-      completes m source plan (least_declared None plan.entries) stands
+      completes m source plan (least_missing m.state source plan) stands
   finishes m _ stands = until.made_nothing Ends Stands apart m stands
 
   ends_by : (m : Mounted) (staged : Option (List ℕ)) (c : Command)

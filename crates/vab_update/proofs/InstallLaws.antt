@@ -20,7 +20,7 @@ use Rattle.vab_model.specs.Commands.{Command, Begin, Create, Resize, Finish, Set
 use Rattle.vab_model.specs.Effects.{Effect, answers, after_of, active_effect, effect_map}
 use Rattle.vab_model.specs.Machine.{machine_effect}
 use Rattle.vab_model.specs.State.{images_at}
-use Rattle.vab_model.specs.Machine.{least_declared}
+use Rattle.vab_model.specs.Machine.{least_missing}
 use Rattle.vab_device.specs.Mounted.{Mounted, in_state}
 use Rattle.vab_device.specs.Updates.{effect_on, finish_effect, complete_effect}
 use Rattle.vab_fbvars.specs.Variables.{has_image}
@@ -50,7 +50,8 @@ finish_ready m = go m.state.phase
         → is_refused (finish_effect m phase).reply ≡ false
         → IsReady (after_of m (finish_effect m phase)).state.phase
     go Idle done = absurd cc
-    go (Installing source plan) done = complete source plan (least_declared None plan.entries) done
+    go (Installing source plan) done =
+        complete source plan (least_missing m.state source plan) done
     go (Staged source left) done = absurd cc
     go (Merging target left) done = absurd cc
 

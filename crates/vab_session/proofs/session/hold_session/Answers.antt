@@ -1,5 +1,5 @@
 use Rattle.std.proofs.Common.{◌≡◌, ℕ, ◌+◌, ◌++◌, ◌∙◌, min, true, List, None, Err, length, take}
-use Rattle.std.proofs.Common.{drop, codes, sym, ap, subst, arith, rules, length-take, get_or}
+use Rattle.std.proofs.Common.{drop, codes, sym, ap, subst, arith, length-take, get_or}
 use Rattle.std.proofs.Common.{get_or-drop, take-append-drop, Result, Ok, false}
 use Rattle.std.specs.Prelude.{is_err, OnOk}
 use Rattle.vab_disk.specs.Disk.{Image, Outcome, Leaves, Adds, Nothing}
