@@ -15,7 +15,8 @@ const VERSION: u8 = 1;
 /// The most blocks of a physical partition.
 const MOST: u64 = 1 << 20;
 
-/// The sizes of the physical partitions of each slot, in blocks of 4096 bytes: 1 to 2^20.
+/// The sizes of the physical partitions of each slot, in blocks of 4096 bytes: 1 to 2^20. The
+/// format is this program's own, of sector 2113.
 #[derive(Clone, Copy, Debug, PartialEq, Eq)]
 pub struct PhysicalSizes {
     pub boot: u64,
@@ -29,8 +30,8 @@ fn is_size(blocks: u64) -> bool
 }
 
 impl PhysicalSizes {
-    /// Whether both are sizes that physical partitions may have.
-    pub fn are_sizes(&self) -> bool
+    // Both are sizes that physical partitions may have.
+    fn are_sizes(&self) -> bool
         ensures { result ≡ are_sizes self.now }
     {
         is_size(self.boot) && is_size(self.vbmeta)
