@@ -10,4 +10,5 @@ mod Changing
 mod Data
 mod Endings
 mod Plain
+mod ReadLaws
 mod ShortNames

@@ -1,6 +1,7 @@
 pub mod Alone
 pub mod Between
 pub mod Fault
+pub mod Read
 pub mod Responses
 pub mod Served
 pub mod Source

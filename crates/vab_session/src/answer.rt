@@ -11,14 +11,15 @@ ghost use Rattle.vab_device.specs.Does.{KeepsSource};
 ghost use Rattle.vab_model.specs.Kinds.{changes_source};
 ghost use Rattle.vab_commands.specs.Copies.{HasBothCopies};
 ghost use Rattle.vab_commands.specs.Touched.{ChangesDevice, ChangesBy, FollowsBy};
-ghost use Rattle.vab_exchanges.specs.Session.{ends_session};
+ghost use Rattle.vab_exchanges.specs.Session.{is_last};
 ghost use Rattle.vab_exchanges.specs.Reading.{stands_at, rest_of, beyond_of, room_of, total_of};
 ghost use Rattle.vab_exchanges.specs.Reading.{count_of, most_of, IsFed};
 ghost use Rattle.vab_exchanges.specs.Items.{AsksNoData, staged_after};
 ghost use Rattle.vab_session.specs.Sparing.{asks_source};
 ghost use Rattle.vab_session.specs.Responses.{response, still, takes_staged};
 ghost use Rattle.vab_session.specs.Served.{kept_on, AnswersOrFails, HasCause, Held};
-ghost use Rattle.vab_session.specs.Written.{IsOfChange, WritesAs, WritesPacket};
+ghost use Rattle.vab_session.specs.Read.{asked_in};
+ghost use Rattle.vab_session.specs.Written.{IsOfAsked, IsOfChange, WritesAs, command_asked};
 
 use crate::tell::{data_text, tell_reply};
 use crate::{KeptDevice, SessionFault};
@@ -27,7 +28,7 @@ use std::alloc::Global;
 use vab_commands::run_one;
 use vab_disk::{Disk, Port};
 use vab_exchanges::Reader;
-use vab_fbproto::{Request, bad_text, read_command, reply_text};
+use vab_fbproto::{BadCommand, Request, bad_text, reply_text};
 use vab_fbvars::variable;
 use vab_merging::left;
 use vab_model::{Command, Reply};
@@ -231,24 +232,24 @@ fn download<P: Port>(
     })
 }
 
-/// Whether the session ends behind a packet.
-#[tactic(auto, unfolding(vab_exchanges::specs::Session::ends_session))]
-pub(crate) fn is_last(packet: &[u8]) -> bool
-    ensures { result ≡ ends_session packet.now }
+/// Whether the session ends behind what a packet asks for.
+pub(crate) fn is_last(request: &Result<Request<'_>, BadCommand>) -> bool
+    ensures { result ≡ is_last (asked_in request.now) }
 {
-    matches!(read_command(packet), Ok(Request::BootAndEnd))
+    matches!(request, Ok(Request::BootAndEnd))
 }
 
-/// Answers a packet, with the data that it brings. Where the device that is kept is that of the
-/// disk and nothing is pending, in each outcome since some front of the reply is told and the disk
-/// is in one of the item's steps, and where the whole reply is told, in the last of them.
+/// Answers what a packet asks for, with the data that it brings. Where the device that is kept is
+/// that of the disk and nothing is pending, in each outcome since some front of the reply is told
+/// and the disk is in one of the item's steps, and where the whole reply is told, in the last of
+/// them.
 #[tactic(auto, using(crate::proofs::Changing::on_ok))]
 pub(crate) fn answer<P: Port>(
     alloc: Global,
     p: &mut P,
     reader: &mut Reader,
     kept: KeptDevice,
-    packet: &[u8],
+    request: Result<Request<'_>, BadCommand>,
 ) -> Result<KeptDevice, SessionFault>
     requires place { stands_at reader.old ≡ Length }
     requires fed { IsFed reader.old }
@@ -265,12 +266,14 @@ pub(crate) fn answer<P: Port>(
     ensures most { most_of reader.new ≡ most_of reader.old }
     ensures device { IfOk result (λ k. IsDevice k.device (P.size p.old)) }
     ensures follows { IfOk result
-        (λ k. FollowsBy kept.device (asks_source (request_of packet.now) ≡ false) k.device) }
+        (λ k. FollowsBy kept.device (asks_source (asked_in request.entry) ≡ false) k.device) }
     ensures stands { P.is_modelled
         → IfOk result (λ k. Represents k.device (P.size p.old) (P.seen p.new)) }
     ensures does { P.is_modelled
+        → (packet : List ℕ)
+        → request_of packet ≡ asked_in request.entry
         → AnswersOrFails (P.size p.old) P.Disk (kept_on kept (P.seen p.old))
-        packet.now
+        packet
         (rest_of reader.old (P.input_left p.old))
         (rest_of reader.new (P.input_left p.new))
         (beyond_of reader.old (P.input_left p.old))
@@ -278,16 +281,19 @@ pub(crate) fn answer<P: Port>(
         (total_of reader.old (P.input_left p.old))
         (most_of reader.old) p.old p.new result }
     ensures changes { P.is_modelled
-        → ChangesBy P.Disk kept.device (asks_source (request_of packet.now) ≡ false) p.old p.new }
+        → ChangesBy P.Disk kept.device (asks_source (asked_in request.entry) ≡ false) p.old p.new }
     ensures copies { P.is_modelled
         → Held result
         → HasBothCopies (P.size p.old) (P.seen p.new) }
     // What is written is what its command writes, where it changes the device.
     ensures writes { P.is_modelled
-        → WritesPacket P.Disk kept.device (kept_on kept (P.seen p.old)) packet.now p.old p.new }
+        → WritesAs P.Disk
+        (IsOfAsked P.is_modelled kept.device (kept_on kept (P.seen p.old)) (P.seen p.old 4)
+        (command_asked kept.device (asked_in request.entry)))
+        p.old p.new }
     ensures cause { HasCause P.Disk p.old p.new result }
 {
-    match read_command(packet) {
+    match request {
         Ok(Request::Download(size)) => download(alloc, p, reader, kept, size),
         Ok(Request::Getvar(asked)) => {
             let mut text = ArrayVec::new();

@@ -24,6 +24,7 @@ use std::alloc::Global;
 use vab_device::Device;
 use vab_disk::{Disk, Port};
 use vab_exchanges::{Reader, say_all};
+use vab_fbproto::read_command;
 
 /// The most bytes that a session takes.
 pub const MAX_SESSION: u64 = 1 << 44;
@@ -92,11 +93,13 @@ fn answer_all<P: Port>(
             Ok(false) => return Ok((Ended::Closed, device_of(kept))),
             Err(fault) => return Err(SessionFault::from(fault)),
         }
-        match answer(alloc, p, reader, kept, packet.as_slice()) {
+        let request = read_command(packet.as_slice());
+        let last = is_last(&request);
+        match answer(alloc, p, reader, kept, request) {
             Ok(next) => kept = next,
             Err(fault) => return Err(fault),
         }
-        if is_last(packet.as_slice()) {
+        if last {
             let device = device_of(kept);
             return Ok((Ended::Rebooted(device.current()), device));
         }

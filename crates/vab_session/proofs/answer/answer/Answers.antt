@@ -12,7 +12,9 @@ use Rattle.vab_model.specs.declared.state.PlanEntry.{PlanEntry}
 use Rattle.vab_device.specs.declared.device.Device.{Device}
 use Rattle.vab_device.specs.Mounted.{Mounted, state_on, count_at, phase_by, unplanned, entries_on}
 use Rattle.vab_fbproto.specs.Requests.{Asked, Getvar, Download, Do, MergeAll, BootAndEnd}
-use Rattle.vab_fbproto.specs.Requests.{request_of}
+use Rattle.vab_fbproto.specs.Requests.{asked_of, request_of}
+use Rattle.vab_fbproto.specs.declared.request.Request.{Request}
+use Rattle.vab_session.specs.Read.{asked_in}
 use Rattle.vab_fbproto.specs.Requests.{variable_of}
 use Rattle.vab_fbproto.specs.declared.request.BadCommand.{BadCommand}
 use Rattle.vab_fbvars.specs.Variables.{variable_text}
@@ -28,9 +30,13 @@ use Rattle.vab_session.proofs.Changing.{if_ok, follows_kept}
 use Rattle.vab_disk.specs.declared.disk.Disk.{Ghosts}
 use Rattle.vab_device.specs.Mounted.{Mounted}
 use Rattle.vab_exchanges.specs.Items.{Kept}
-use Rattle.vab_session.specs.Written.{IsOfAsked, IsOfChange, WritesAs, WritesPacket, command_asked}
+use Rattle.vab_session.specs.Written.{IsOfAsked, IsOfChange, WritesAs, command_asked}
 use Rattle.vab_session.proofs.WrittenLaws.{writes_as}
 use Rattle.vab_session.proofs.answer.answer.Goals as goal
+
+-- what is asked for by this
+abbrev asked_some : Request → Result Asked BadCommand
+asked_some request = Ok (asked_of request)
 
 -- a packet that brings no data is answered behind the same bytes, where nothing is heard
 unheard : {D : Type 0} (g : Ghosts D) (size : ℕ) (k : Kept Mounted) (packet : List ℕ) (r : Reader)
@@ -51,14 +57,14 @@ unheard g size k packet r old new result left does =
     (sym left) (does (rest_of r l) (beyond_of r l) (count_of r l) (total_of r l) (most_of r))
 
 pub returns-in-Ok-Getvar-clause-does : goal.returns-in-Ok-Getvar-clause-does
-returns-in-Ok-Getvar-clause-does g c = λ t.
-    let packet = c.args.packet.now in
+returns-in-Ok-Getvar-clause-does g c = λ t packet was.
     let asked = variable_of c.in-Ok-Getvar.asked in
     let device = c.args.kept.device in
     let old = c.args.p.now in
     let image = g.P.Disk.seen old in
     let is : request_of packet ≡ Ok (Getvar asked) =
-    rw c.in-Ok-Getvar.field-0-is at c.in-Ok-Getvar.ensures in
+    was ∙ ap asked_in c.in-Ok-Getvar.is
+    ∙ ap asked_some (rw c.in-Ok-Getvar.is at c.in-Ok-Getvar.field-0-is) in
     let text : c.as_slice.result.now ≡ variable_text (state_on device image) asked =
     c.as_slice.ensures.value
     ∙ c.variable.ensures.text (g.P.Disk.size old) image c.requires.device
@@ -66,7 +72,7 @@ returns-in-Ok-Getvar-clause-does g c = λ t.
     (g.met.P.Disk.seen_held old s)).long)
     in
     unheard g.P.Disk (g.P.Disk.size c.args.p.now)
-    (kept_on c.args.kept (g.P.Disk.seen c.args.p.now)) c.args.packet.now c.args.reader.now
+    (kept_on c.args.kept (g.P.Disk.seen c.args.p.now)) packet c.args.reader.now
     c.args.p.now c.tell_still.new.p c.tell_still.result
     (c.tell_still.ensures.left t)
     (λ before beyond count total most.
@@ -108,13 +114,13 @@ left_here d image target left is =
     left_by d.mark (count_at d.a + count_at d.b) target left (entries_on image d.plan) is
 
 pub returns-in-Ok-MergeAll-clause-does : goal.returns-in-Ok-MergeAll-clause-does
-returns-in-Ok-MergeAll-clause-does g c = λ t.
-    let packet = c.args.packet.now in
+returns-in-Ok-MergeAll-clause-does g c = λ t packet was.
     let is : request_of packet ≡ Ok MergeAll =
-    rw c.in-Ok-MergeAll.field-0-is at c.in-Ok-MergeAll.ensures in
+    was ∙ ap asked_in c.in-Ok-MergeAll.is
+    ∙ ap asked_some (rw c.in-Ok-MergeAll.is at c.in-Ok-MergeAll.field-0-is) in
     let k = kept_on c.args.kept (g.P.Disk.seen c.args.p.now) in
     unheard g.P.Disk (g.P.Disk.size c.args.p.now)
-    (kept_on c.args.kept (g.P.Disk.seen c.args.p.now)) c.args.packet.now c.args.reader.now
+    (kept_on c.args.kept (g.P.Disk.seen c.args.p.now)) packet c.args.reader.now
     c.args.p.now c.do_command-in-Ok-MergeAll.new.p c.do_command-in-Ok-MergeAll.result
     (c.do_command-in-Ok-MergeAll.ensures.left t)
     (λ before beyond count total most.
@@ -126,25 +132,25 @@ returns-in-Ok-MergeAll-clause-does g c = λ t.
     ∙ left_here c.args.kept.device (g.P.Disk.seen c.args.p.now) target left merging)))
 
 pub returns-in-Ok-Do-clause-does : goal.returns-in-Ok-Do-clause-does
-returns-in-Ok-Do-clause-does g c = λ t.
-    let packet = c.args.packet.now in
+returns-in-Ok-Do-clause-does g c = λ t packet was.
     let command = command_of c.in-Ok-Do.command in
     let is : request_of packet ≡ Ok (Do command) =
-    rw c.in-Ok-Do.field-0-is at c.in-Ok-Do.ensures in
+    was ∙ ap asked_in c.in-Ok-Do.is
+    ∙ ap asked_some (rw c.in-Ok-Do.is at c.in-Ok-Do.field-0-is) in
     unheard g.P.Disk (g.P.Disk.size c.args.p.now)
-    (kept_on c.args.kept (g.P.Disk.seen c.args.p.now)) c.args.packet.now c.args.reader.now
+    (kept_on c.args.kept (g.P.Disk.seen c.args.p.now)) packet c.args.reader.now
     c.args.p.now c.do_command.new.p c.do_command.result
     (c.do_command.ensures.left t)
     (λ before beyond count total most.
     c.do_command.ensures.does t packet before beyond count total most (Ok (Do command)) is tt refl)
 
 pub returns-in-Ok-BootAndEnd-clause-does : goal.returns-in-Ok-BootAndEnd-clause-does
-returns-in-Ok-BootAndEnd-clause-does g c = λ t.
-    let packet = c.args.packet.now in
+returns-in-Ok-BootAndEnd-clause-does g c = λ t packet was.
     let is : request_of packet ≡ Ok BootAndEnd =
-    rw c.in-Ok-BootAndEnd.field-0-is at c.in-Ok-BootAndEnd.ensures in
+    was ∙ ap asked_in c.in-Ok-BootAndEnd.is
+    ∙ ap asked_some (rw c.in-Ok-BootAndEnd.is at c.in-Ok-BootAndEnd.field-0-is) in
     unheard g.P.Disk (g.P.Disk.size c.args.p.now)
-    (kept_on c.args.kept (g.P.Disk.seen c.args.p.now)) c.args.packet.now c.args.reader.now
+    (kept_on c.args.kept (g.P.Disk.seen c.args.p.now)) packet c.args.reader.now
     c.args.p.now c.do_command-in-Ok-BootAndEnd.new.p c.do_command-in-Ok-BootAndEnd.result
     (c.do_command-in-Ok-BootAndEnd.ensures.left t)
     (λ before beyond count total most.
@@ -152,23 +158,23 @@ returns-in-Ok-BootAndEnd-clause-does g c = λ t.
     (Ok BootAndEnd) is tt refl)
 
 pub returns-in-Err-clause-does : goal.returns-in-Err-clause-does
-returns-in-Err-clause-does g c = λ t.
+returns-in-Err-clause-does g c = λ t packet was.
     unheard g.P.Disk (g.P.Disk.size c.args.p.now)
-    (kept_on c.args.kept (g.P.Disk.seen c.args.p.now)) c.args.packet.now c.args.reader.now
+    (kept_on c.args.kept (g.P.Disk.seen c.args.p.now)) packet c.args.reader.now
     c.args.p.now c.tell_still-in-Err.new.p c.tell_still-in-Err.result
     (c.tell_still-in-Err.ensures.left t)
     (λ before beyond count total most.
-    c.tell_still-in-Err.ensures.does t c.args.packet.now before beyond count total most
-    (Err c.in-Err.bad) c.in-Err.ensures tt (ap still (sym c.bad_text.ensures.text)))
+    c.tell_still-in-Err.ensures.does t packet before beyond count total most
+    (Err c.in-Err.bad) (was ∙ ap asked_in c.in-Err.is) tt (ap still (sym c.bad_text.ensures.text)))
 
 -- ---- what is changed, and what is kept
 
--- a packet that asks for this asks for no more merges than it does
-asks_for : (packet : List ℕ) (asked : Result Asked BadCommand)
-    → request_of packet ≡ asked
-    → asks_source (request_of packet) ≡ false
+-- what was read asks for no more merges than this, which it is
+asks_for : (request : Result Request BadCommand) (asked : Result Asked BadCommand)
+    → asked_in request ≡ asked
+    → asks_source (asked_in request) ≡ false
     → asks_source asked ≡ false
-asks_for packet asked is not = sym (ap asks_source is) ∙ not
+asks_for request asked is not = sym (ap asks_source is) ∙ not
 
 pub returns-in-Ok-Getvar-clause-changes : goal.returns-in-Ok-Getvar-clause-changes
 returns-in-Ok-Getvar-clause-changes g c = λ t.
@@ -182,20 +188,20 @@ returns-in-Err-clause-changes g c = λ t.
 
 pub returns-in-Ok-Do-clause-changes : goal.returns-in-Ok-Do-clause-changes
 returns-in-Ok-Do-clause-changes g c = λ t.
-    let packet = c.args.packet.now in
-    let is : request_of packet ≡ Ok (Do (command_of c.in-Ok-Do.command)) =
-    rw c.in-Ok-Do.field-0-is at c.in-Ok-Do.ensures in
+    let read : asked_in c.args.request ≡ Ok (Do (command_of c.in-Ok-Do.command)) =
+    ap asked_in c.in-Ok-Do.is
+    ∙ ap asked_some (rw c.in-Ok-Do.is at c.in-Ok-Do.field-0-is) in
     changes_under g.P.Disk c.args.kept.device _ _ c.args.p.now c.do_command.new.p
-    (asks_for packet (Ok (Do (command_of c.in-Ok-Do.command))) is)
+    (asks_for c.args.request (Ok (Do (command_of c.in-Ok-Do.command))) read)
     (c.do_command.ensures.changes t)
 
 pub returns-in-Ok-MergeAll-clause-changes : goal.returns-in-Ok-MergeAll-clause-changes
 returns-in-Ok-MergeAll-clause-changes g c = λ t.
-    let packet = c.args.packet.now in
-    let is : request_of packet ≡ Ok MergeAll =
-    rw c.in-Ok-MergeAll.field-0-is at c.in-Ok-MergeAll.ensures in
+    let read : asked_in c.args.request ≡ Ok MergeAll =
+    ap asked_in c.in-Ok-MergeAll.is
+    ∙ ap asked_some (rw c.in-Ok-MergeAll.is at c.in-Ok-MergeAll.field-0-is) in
     changes_under g.P.Disk c.args.kept.device _ _ c.args.p.now c.do_command-in-Ok-MergeAll.new.p
-    (asks_for packet (Ok MergeAll) is)
+    (asks_for c.args.request (Ok MergeAll) read)
     (c.do_command-in-Ok-MergeAll.ensures.changes t)
 
 pub returns-in-Ok-BootAndEnd-clause-changes : goal.returns-in-Ok-BootAndEnd-clause-changes
@@ -218,23 +224,24 @@ returns-in-Err-clause-follows g c =
 
 pub returns-in-Ok-Do-clause-follows : goal.returns-in-Ok-Do-clause-follows
 returns-in-Ok-Do-clause-follows g c =
-    let packet = c.args.packet.now in
-    let is : request_of packet ≡ Ok (Do (command_of c.in-Ok-Do.command)) =
-    rw c.in-Ok-Do.field-0-is at c.in-Ok-Do.ensures in
+    let read : asked_in c.args.request ≡ Ok (Do (command_of c.in-Ok-Do.command)) =
+    ap asked_in c.in-Ok-Do.is
+    ∙ ap asked_some (rw c.in-Ok-Do.is at c.in-Ok-Do.field-0-is) in
     if_ok _ _ c.do_command.result
     (λ k follows.
     follows_under c.args.kept.device _ _ k.device
-    (asks_for packet (Ok (Do (command_of c.in-Ok-Do.command))) is) follows)
+    (asks_for c.args.request (Ok (Do (command_of c.in-Ok-Do.command))) read) follows)
     c.do_command.ensures.follows
 
 pub returns-in-Ok-MergeAll-clause-follows : goal.returns-in-Ok-MergeAll-clause-follows
 returns-in-Ok-MergeAll-clause-follows g c =
-    let packet = c.args.packet.now in
-    let is : request_of packet ≡ Ok MergeAll =
-    rw c.in-Ok-MergeAll.field-0-is at c.in-Ok-MergeAll.ensures in
+    let read : asked_in c.args.request ≡ Ok MergeAll =
+    ap asked_in c.in-Ok-MergeAll.is
+    ∙ ap asked_some (rw c.in-Ok-MergeAll.is at c.in-Ok-MergeAll.field-0-is) in
     if_ok _ _ c.do_command-in-Ok-MergeAll.result
     (λ k follows.
-    follows_under c.args.kept.device _ _ k.device (asks_for packet (Ok MergeAll) is) follows)
+    follows_under c.args.kept.device _ _ k.device
+    (asks_for c.args.request (Ok MergeAll) read) follows)
     c.do_command-in-Ok-MergeAll.ensures.follows
 
 pub returns-in-Ok-BootAndEnd-clause-follows : goal.returns-in-Ok-BootAndEnd-clause-follows
@@ -245,60 +252,62 @@ returns-in-Ok-BootAndEnd-clause-follows g c =
 
 -- what the packet asks for
 asked_writes : {D : Type 0} (g : Ghosts D) (d : Device) (k : Kept Mounted)
-    (packet : List ℕ) (asked : Result Asked BadCommand) (old new : D)
-    → request_of packet ≡ asked
+    (request : Result Request BadCommand) (asked : Result Asked BadCommand) (old new : D)
+    → asked_in request ≡ asked
     → WritesAs g (IsOfAsked g.is_modelled d k (g.seen old 4) (command_asked d asked)) old new
-    → WritesPacket g d k packet old new
-asked_writes g d k packet asked old new is wrote =
+    → WritesAs g
+    (IsOfAsked g.is_modelled d k (g.seen old 4) (command_asked d (asked_in request)))
+    old new
+asked_writes g d k request asked old new is wrote =
     subst
     (λ (a : Result Asked BadCommand).
     WritesAs g (IsOfAsked g.is_modelled d k (g.seen old 4) (command_asked d a)) old new)
     (sym is) wrote
 
-none_writes : {D : Type 0} (g : Ghosts D) (d : Device) (k : Kept Mounted)
-    (packet : List ℕ) (old new : D)
+none_writes : {D : Type 0} (g : Ghosts D) (W : ℕ → List ℕ → Type 0) (old new : D)
     → WritesAs g (λ s b. ⊥) old new
-    → WritesPacket g d k packet old new
-none_writes g d k packet old new wrote =
-    writes_as g (λ s b. ⊥) _ old new (λ s b none. absurd none) wrote
+    → WritesAs g W old new
+none_writes g W old new wrote =
+    writes_as g (λ s b. ⊥) W old new (λ s b none. absurd none) wrote
 
 pub returns-in-Ok-Getvar-clause-writes : goal.returns-in-Ok-Getvar-clause-writes
 returns-in-Ok-Getvar-clause-writes g c = λ t.
-    none_writes g.P.Disk c.args.kept.device _ c.args.packet.now c.args.p.now c.tell_still.new.p
+    none_writes g.P.Disk _ c.args.p.now c.tell_still.new.p
     (c.tell_still.ensures.writes t)
 
 pub returns-in-Err-clause-writes : goal.returns-in-Err-clause-writes
 returns-in-Err-clause-writes g c = λ t.
-    none_writes g.P.Disk c.args.kept.device _ c.args.packet.now c.args.p.now
-    c.tell_still-in-Err.new.p (c.tell_still-in-Err.ensures.writes t)
+    none_writes g.P.Disk _ c.args.p.now c.tell_still-in-Err.new.p
+    (c.tell_still-in-Err.ensures.writes t)
 
 pub returns-in-Ok-Do-clause-writes : goal.returns-in-Ok-Do-clause-writes
 returns-in-Ok-Do-clause-writes g c = λ t.
-    let packet = c.args.packet.now in
-    let is : request_of packet ≡ Ok (Do (command_of c.in-Ok-Do.command)) =
-    rw c.in-Ok-Do.field-0-is at c.in-Ok-Do.ensures in
-    asked_writes g.P.Disk c.args.kept.device _ packet (Ok (Do (command_of c.in-Ok-Do.command)))
-    c.args.p.now c.do_command.new.p is (c.do_command.ensures.writes t)
+    let read : asked_in c.args.request ≡ Ok (Do (command_of c.in-Ok-Do.command)) =
+    ap asked_in c.in-Ok-Do.is
+    ∙ ap asked_some (rw c.in-Ok-Do.is at c.in-Ok-Do.field-0-is) in
+    asked_writes g.P.Disk c.args.kept.device _ c.args.request
+    (Ok (Do (command_of c.in-Ok-Do.command)))
+    c.args.p.now c.do_command.new.p read (c.do_command.ensures.writes t)
 
 pub returns-in-Ok-BootAndEnd-clause-writes : goal.returns-in-Ok-BootAndEnd-clause-writes
 returns-in-Ok-BootAndEnd-clause-writes g c = λ t.
-    let packet = c.args.packet.now in
-    let is : request_of packet ≡ Ok BootAndEnd =
-    rw c.in-Ok-BootAndEnd.field-0-is at c.in-Ok-BootAndEnd.ensures in
-    asked_writes g.P.Disk c.args.kept.device _ packet (Ok BootAndEnd)
-    c.args.p.now c.do_command-in-Ok-BootAndEnd.new.p is
+    let read : asked_in c.args.request ≡ Ok BootAndEnd =
+    ap asked_in c.in-Ok-BootAndEnd.is
+    ∙ ap asked_some (rw c.in-Ok-BootAndEnd.is at c.in-Ok-BootAndEnd.field-0-is) in
+    asked_writes g.P.Disk c.args.kept.device _ c.args.request (Ok BootAndEnd)
+    c.args.p.now c.do_command-in-Ok-BootAndEnd.new.p read
     (c.do_command-in-Ok-BootAndEnd.ensures.writes t)
 
 pub returns-in-Ok-MergeAll-clause-writes : goal.returns-in-Ok-MergeAll-clause-writes
 returns-in-Ok-MergeAll-clause-writes g c = λ t.
-    let packet = c.args.packet.now in
     let d = c.args.kept.device in
     let old = c.args.p.now in
     let new = c.do_command-in-Ok-MergeAll.new.p in
     let k = kept_on c.args.kept (g.P.Disk.seen old) in
-    let is : request_of packet ≡ Ok MergeAll =
-    rw c.in-Ok-MergeAll.field-0-is at c.in-Ok-MergeAll.ensures in
-    asked_writes g.P.Disk d k packet (Ok MergeAll) old new is
+    let read : asked_in c.args.request ≡ Ok MergeAll =
+    ap asked_in c.in-Ok-MergeAll.is
+    ∙ ap asked_some (rw c.in-Ok-MergeAll.is at c.in-Ok-MergeAll.field-0-is) in
+    asked_writes g.P.Disk d k c.args.request (Ok MergeAll) old new read
     (subst
     (λ (n : ℕ).
     WritesAs g.P.Disk
@@ -309,10 +318,10 @@ returns-in-Ok-MergeAll-clause-writes g c = λ t.
 -- ---- a download asks for no merge
 
 pub returns-in-Ok-Download-clause-does : goal.returns-in-Ok-Download-clause-does
-returns-in-Ok-Download-clause-does g c = λ t.
-    let packet = c.args.packet.now in
+returns-in-Ok-Download-clause-does g c = λ t packet was.
     let is : request_of packet ≡ Ok (Download c.in-Ok-Download.size) =
-    rw c.in-Ok-Download.field-0-is at c.in-Ok-Download.ensures in
+    was ∙ ap asked_in c.in-Ok-Download.is
+    ∙ ap asked_some (rw c.in-Ok-Download.is at c.in-Ok-Download.field-0-is) in
     c.download.ensures.does t packet is
 
 pub returns-in-Ok-Download-clause-changes : goal.returns-in-Ok-Download-clause-changes
@@ -328,5 +337,5 @@ returns-in-Ok-Download-clause-follows g c =
 
 pub returns-in-Ok-Download-clause-writes : goal.returns-in-Ok-Download-clause-writes
 returns-in-Ok-Download-clause-writes g c = λ t.
-    none_writes g.P.Disk c.args.kept.device _ c.args.packet.now c.args.p.now c.download.new.p
+    none_writes g.P.Disk _ c.args.p.now c.download.new.p
     (c.download.ensures.writes t)

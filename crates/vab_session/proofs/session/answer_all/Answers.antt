@@ -23,6 +23,7 @@ use Rattle.vab_session.specs.Responses.{response, turns_between, machine}
 use Rattle.vab_session.specs.declared.fault.Ended.{Ended}
 use Rattle.vab_session.specs.Served.{kept_on, HasCause, HeldBy, Says}
 use Rattle.vab_session.proofs.Data.{read_cause}
+use Rattle.vab_session.proofs.ReadLaws.{was_read, ends_read, spares_read, writes_read}
 use Rattle.vab_session.specs.Written.{IsOfChange, WritesPacket}
 use Rattle.vab_session.proofs.Endings.{moved, some_is, does_moved, read_fails, answer_fails}
 use Rattle.vab_session.proofs.Endings.{came_on, kept_now}
@@ -200,12 +201,15 @@ returns-in-Err-answer-clause-ran g c = λ t are told greeted.
     (g.P.Disk.size now) N (total_of q lq) total (most_of q) most
     c.as_slice.result.now body (beyond_of q lq) beyond now new (Err c.in-Err-answer.fault)
     then sizes c.as_slice.ensures.value (ok.beyond t ∙ ap (beyond_of r) same ∙ i.beyond t)
-    (ok.count t ∙ counted) (c.packet.ensures.most ∙ i.most) (c.in-Err-answer.ensures.does t) in
+    (ok.count t ∙ counted) (c.packet.ensures.most ∙ i.most)
+    (c.in-Err-answer.ensures.does t c.as_slice.result.now
+    (was_read c.as_slice.result.now c.read_command-request.result
+    c.read_command-request.ensures)) in
     answer_fails turns N g.P.Disk bytes beyond first told old now left base so_far
     (min most total) total most are body before fits is new c.in-Err-answer.fault done
 
-pub returns-then-is_last-clause-ran : goal.returns-then-is_last-clause-ran
-returns-then-is_last-clause-ran g c = λ t are told greeted.
+pub returns-then-last-clause-ran : goal.returns-then-last-clause-ran
+returns-then-last-clause-ran g c = λ t are told greeted.
     let old = c.args.p.now in
     let start = c.loop-next.p in
     let mid = c.go_on.new.d in
@@ -250,10 +254,15 @@ returns-then-is_last-clause-ran g c = λ t are told greeted.
     (g.P.Disk.size now) N (total_of q lq) total (most_of q) most
     c.as_slice.result.now body (beyond_of q lq) beyond now new (Ok c.in-Ok-answer.next)
     then sizes c.as_slice.ensures.value (ok.beyond t ∙ ap (beyond_of r) same ∙ i.beyond t)
-    (ok.count t ∙ counted) (c.packet.ensures.most ∙ i.most) (c.in-Ok-answer.ensures.does t) in
+    (ok.count t ∙ counted) (c.packet.ensures.most ∙ i.most)
+    (c.in-Ok-answer.ensures.does t c.as_slice.result.now
+    (was_read c.as_slice.result.now c.read_command-request.result
+    c.read_command-request.ensures)) in
     let last =
-    subst (λ (l : List ℕ). ends_session l ≡ true) c.as_slice-in-loop-next.ensures.value
-    (sym c.is_last.ensures ∙ c.if-is_last.true) in
+    subst (λ (l : List ℕ). ends_session l ≡ true) c.as_slice.ensures.value
+    (ends_read c.as_slice.result.now c.read_command-request.result true
+    c.read_command-request.ensures
+    (sym c.is_last-last.ensures ∙ c.if-last.true)) in
     let reached = mounted_on c.device_of-device.result (g.P.Disk.seen new) in
     rebooted (machine turns) (IsIn N) g.P.Disk bytes beyond first told old now left
     (turns_between turns base.now) base so_far refl
@@ -294,12 +303,14 @@ loop-next-preserved g c =
       follows = λ t.
           follows_then c.args.kept.device c.in-Ok.next.device after.device _ _
           (λ p.
-          subst (λ (l : List ℕ). asks_source (request_of l) ≡ false)
+          spares_read c.as_slice.result.now c.read_command-request.result
+          c.read_command-request.ensures
+          (subst (λ (l : List ℕ). asks_source (request_of l) ≡ false)
           (sym c.as_slice.ensures.value)
           (asks_none c.args.turns (g.P.Disk.size c.args.p.now) g.P.Disk _ _ _ p.0.0 _ _ _ _
           (c.loop-next.invariant.progress t p.0.0 p.0.1) p.1 _ _
           (ap (rest_of c.loop-next.reader) (sym (c.in-Ok.ensures.quiet.left t))
-          ∙ rw c.in-Ok-true.field-0-test at c.in-Ok-true.ensures.packet t)))
+          ∙ rw c.in-Ok-true.field-0-test at c.in-Ok-true.ensures.packet t))))
           (follows_then c.args.kept.device c.loop-next.kept.device c.in-Ok.next.device
           _ _ (λ p. p.2) (c.loop-next.invariant.follows t) c.in-Ok.ensures.follows) answer.follows;
       changes = λ t.
@@ -309,12 +320,14 @@ loop-next-preserved g c =
           (subst (λ (n : ℕ). Represents c.in-Ok.next.device n (g.P.Disk.seen c.go_on.new.d))
           c.loop-next.invariant.size (c.in-Ok.ensures.stands t))
           (λ p.
-          subst (λ (l : List ℕ). asks_source (request_of l) ≡ false)
+          spares_read c.as_slice.result.now c.read_command-request.result
+          c.read_command-request.ensures
+          (subst (λ (l : List ℕ). asks_source (request_of l) ≡ false)
           (sym c.as_slice.ensures.value)
           (asks_none c.args.turns (g.P.Disk.size c.args.p.now) g.P.Disk _ _ _ p.0.0 _ _ _ _
           (c.loop-next.invariant.progress t p.0.0 p.0.1) p.1 _ _
           (ap (rest_of c.loop-next.reader) (sym (c.in-Ok.ensures.quiet.left t))
-          ∙ rw c.in-Ok-true.field-0-test at c.in-Ok-true.ensures.packet t)))
+          ∙ rw c.in-Ok-true.field-0-test at c.in-Ok-true.ensures.packet t))))
           (follows_then c.args.kept.device c.loop-next.kept.device c.in-Ok.next.device
           _ _ (λ p. p.2) (c.loop-next.invariant.follows t) c.in-Ok.ensures.follows)
           (changes_by_then g.P.Disk t (g.P.Disk.size c.args.p.now) c.args.kept.device
@@ -371,10 +384,15 @@ loop-next-preserved g c =
           (g.P.Disk.size now) N (total_of q lq) total (most_of q) most
           c.as_slice.result.now body (beyond_of q lq) beyond now new (Ok c.in-Ok-answer.next)
           then sizes c.as_slice.ensures.value (ok.beyond t ∙ ap (beyond_of r) same ∙ i.beyond t)
-          (ok.count t ∙ counted) (c.packet.ensures.most ∙ i.most) (c.in-Ok-answer.ensures.does t) in
+          (ok.count t ∙ counted) (c.packet.ensures.most ∙ i.most)
+          (c.in-Ok-answer.ensures.does t c.as_slice.result.now
+          (was_read c.as_slice.result.now c.read_command-request.result
+          c.read_command-request.ensures)) in
           let goes =
-          subst (λ (l : List ℕ). ends_session l ≡ false) c.as_slice-in-loop-next.ensures.value
-          (sym c.is_last.ensures ∙ c.if-is_last.false) in
+          subst (λ (l : List ℕ). ends_session l ≡ false) c.as_slice.ensures.value
+          (ends_read c.as_slice.result.now c.read_command-request.result false
+          c.read_command-request.ensures
+          (sym c.is_last-last.ensures ∙ c.if-last.false)) in
           answered (machine turns) (IsIn N) g.P.Disk bytes beyond first told old now left
           (turns_between turns base.now) base so_far refl
           body before fits is after new (kept_on c.in-Ok-answer.next (g.P.Disk.seen new)) goes done;
@@ -420,7 +438,10 @@ loop-next-preserved g c =
           (g.P.Disk.size now) N (total_of q lq) total (most_of q) most
           c.as_slice.result.now body (beyond_of q lq) beyond now new (Ok c.in-Ok-answer.next)
           then sizes c.as_slice.ensures.value (ok.beyond t ∙ ap (beyond_of r) same ∙ i.beyond t)
-          (ok.count t ∙ counted) (c.packet.ensures.most ∙ i.most) (c.in-Ok-answer.ensures.does t) in
+          (ok.count t ∙ counted) (c.packet.ensures.most ∙ i.most)
+          (c.in-Ok-answer.ensures.does t c.as_slice.result.now
+          (was_read c.as_slice.result.now c.read_command-request.result
+          c.read_command-request.ensures)) in
           let wr = i.written t told greeted in
           let d0 = c.args.kept.device in
           let k0 = kept_on c.args.kept (g.P.Disk.seen old) in
@@ -455,7 +476,11 @@ loop-next-preserved g c =
           then
           (packet_by g.P.Disk next.device (kept_on next (g.P.Disk.seen now))
           c.as_slice.result.now done.exchange.command now new
-          (c.as_slice.ensures.value ∙ sym done.command_is) (c.in-Ok-answer.ensures.writes t)))
+          (c.as_slice.ensures.value ∙ sym done.command_is)
+          (writes_read g.P.Disk next.device (kept_on next (g.P.Disk.seen now))
+          c.as_slice.result.now
+          c.read_command-request.result now new c.read_command-request.ensures
+          (c.in-Ok-answer.ensures.writes t))))
           (subst (λ (n : ℕ). Represents c.in-Ok-answer.next.device n (g.P.Disk.seen new)) sizes
           (c.in-Ok-answer.ensures.stands t))
           refl done.kept done.settled in
@@ -616,12 +641,13 @@ returns-in-Err-answer-clause-changes g c = λ t.
     (subst (λ (n : ℕ). Represents c.in-Ok.next.device n (g.P.Disk.seen c.go_on.new.d))
     c.loop-next.invariant.size (c.in-Ok.ensures.stands t))
     (λ p.
-    subst (λ (l : List ℕ). asks_source (request_of l) ≡ false)
+    spares_read c.as_slice.result.now c.read_command-request.result c.read_command-request.ensures
+    (subst (λ (l : List ℕ). asks_source (request_of l) ≡ false)
     (sym c.as_slice.ensures.value)
     (asks_none c.args.turns (g.P.Disk.size c.args.p.now) g.P.Disk _ _ _ p.0.0 _ _ _ _
     (c.loop-next.invariant.progress t p.0.0 p.0.1) p.1 _ _
     (ap (rest_of c.loop-next.reader) (sym (c.in-Ok.ensures.quiet.left t))
-    ∙ rw c.in-Ok-true.field-0-test at c.in-Ok-true.ensures.packet t)))
+    ∙ rw c.in-Ok-true.field-0-test at c.in-Ok-true.ensures.packet t))))
     (follows_then c.args.kept.device c.loop-next.kept.device c.in-Ok.next.device
     _ _ (λ p. p.2) (c.loop-next.invariant.follows t) c.in-Ok.ensures.follows)
     (changes_by_then g.P.Disk t (g.P.Disk.size c.args.p.now) c.args.kept.device
@@ -630,20 +656,21 @@ returns-in-Err-answer-clause-changes g c = λ t.
     (c.loop-next.invariant.changes t) (c.in-Ok.ensures.changes t))
     c.packet.ensures.listens (c.answer.ensures.changes t)
 
-pub returns-then-is_last-clause-changes : goal.returns-then-is_last-clause-changes
-returns-then-is_last-clause-changes g c = λ t.
+pub returns-then-last-clause-changes : goal.returns-then-last-clause-changes
+returns-then-last-clause-changes g c = λ t.
     changes_answered g.P.Disk (g.P.Disk.size c.args.p.now) c.args.kept.device
     c.in-Ok.next.device _ _ _ _ c.args.p.now c.go_on.new.d c.packet.new.p c.answer.new.p t
     (c.requires.stands t)
     (subst (λ (n : ℕ). Represents c.in-Ok.next.device n (g.P.Disk.seen c.go_on.new.d))
     c.loop-next.invariant.size (c.in-Ok.ensures.stands t))
     (λ p.
-    subst (λ (l : List ℕ). asks_source (request_of l) ≡ false)
+    spares_read c.as_slice.result.now c.read_command-request.result c.read_command-request.ensures
+    (subst (λ (l : List ℕ). asks_source (request_of l) ≡ false)
     (sym c.as_slice.ensures.value)
     (asks_none c.args.turns (g.P.Disk.size c.args.p.now) g.P.Disk _ _ _ p.0.0 _ _ _ _
     (c.loop-next.invariant.progress t p.0.0 p.0.1) p.1 _ _
     (ap (rest_of c.loop-next.reader) (sym (c.in-Ok.ensures.quiet.left t))
-    ∙ rw c.in-Ok-true.field-0-test at c.in-Ok-true.ensures.packet t)))
+    ∙ rw c.in-Ok-true.field-0-test at c.in-Ok-true.ensures.packet t))))
     (follows_then c.args.kept.device c.loop-next.kept.device c.in-Ok.next.device
     _ _ (λ p. p.2) (c.loop-next.invariant.follows t) c.in-Ok.ensures.follows)
     (changes_by_then g.P.Disk t (g.P.Disk.size c.args.p.now) c.args.kept.device
@@ -663,8 +690,8 @@ returns-in-Err-answer-clause-copies g c = λ t held.
     (c.packet.ensures.listens.size ∙ c.in-Ok.ensures.quiet.size ∙ c.loop-next.invariant.size)
     (c.in-Err-answer.ensures.copies t held)
 
-pub returns-then-is_last-clause-copies : goal.returns-then-is_last-clause-copies
-returns-then-is_last-clause-copies g c = λ t held.
+pub returns-then-last-clause-copies : goal.returns-then-last-clause-copies
+returns-then-last-clause-copies g c = λ t held.
     subst (λ (n : ℕ). HasBothCopies n (g.P.Disk.seen c.answer.new.p))
     (c.packet.ensures.listens.size ∙ c.in-Ok.ensures.quiet.size ∙ c.loop-next.invariant.size)
     (c.in-Ok-answer.ensures.copies t tt)
@@ -742,10 +769,14 @@ returns-in-Err-answer-clause-writes g c = λ t told greeted.
     now wr turned stands (ap (λ (k : Kept Mounted). k.now) then) rests before body new there
     (subst (λ (k : Kept Mounted). WritesPacket g.P.Disk next.device k body now new) then
     (packet_by g.P.Disk next.device (kept_on next (g.P.Disk.seen now)) c.as_slice.result.now
-    body now new c.as_slice.ensures.value (c.in-Err-answer.ensures.writes t)))
+    body now new c.as_slice.ensures.value
+    (writes_read g.P.Disk next.device (kept_on next (g.P.Disk.seen now))
+    c.as_slice.result.now
+    c.read_command-request.result now new c.read_command-request.ensures
+    (c.in-Err-answer.ensures.writes t))))
 
-pub returns-then-is_last-clause-writes : goal.returns-then-is_last-clause-writes
-returns-then-is_last-clause-writes g c = λ t told greeted.
+pub returns-then-last-clause-writes : goal.returns-then-last-clause-writes
+returns-then-last-clause-writes g c = λ t told greeted.
     let old = c.args.p.now in
     let start = c.loop-next.p in
     let mid = c.go_on.new.d in
@@ -787,7 +818,10 @@ returns-then-is_last-clause-writes g c = λ t told greeted.
     (g.P.Disk.size now) N (total_of q lq) total (most_of q) most
     c.as_slice.result.now body (beyond_of q lq) beyond now new (Ok c.in-Ok-answer.next)
     then sizes c.as_slice.ensures.value (ok.beyond t ∙ ap (beyond_of r) same ∙ i.beyond t)
-    (ok.count t ∙ counted) (c.packet.ensures.most ∙ i.most) (c.in-Ok-answer.ensures.does t) in
+    (ok.count t ∙ counted) (c.packet.ensures.most ∙ i.most)
+    (c.in-Ok-answer.ensures.does t c.as_slice.result.now
+    (was_read c.as_slice.result.now c.read_command-request.result
+    c.read_command-request.ensures)) in
     let wr = i.written t told greeted in
     let d0 = c.args.kept.device in
     let k0 = kept_on c.args.kept (g.P.Disk.seen old) in
@@ -819,7 +853,11 @@ returns-then-is_last-clause-writes g c = λ t told greeted.
     then
     (packet_by g.P.Disk next.device (kept_on next (g.P.Disk.seen now))
     c.as_slice.result.now done.exchange.command now new
-    (c.as_slice.ensures.value ∙ sym done.command_is) (c.in-Ok-answer.ensures.writes t)))
+    (c.as_slice.ensures.value ∙ sym done.command_is)
+    (writes_read g.P.Disk next.device (kept_on next (g.P.Disk.seen now))
+    c.as_slice.result.now
+    c.read_command-request.result now new c.read_command-request.ensures
+    (c.in-Ok-answer.ensures.writes t))))
     (subst (λ (n : ℕ). Represents c.in-Ok-answer.next.device n (g.P.Disk.seen new)) sizes
     (c.in-Ok-answer.ensures.stands t))
     refl done.kept done.settled in
