@@ -1,0 +1,3 @@
+pub mod MapsLaws
+pub mod TailLaws
+mod CopyLaws
