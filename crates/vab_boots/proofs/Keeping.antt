@@ -73,7 +73,7 @@ still_some name other Declared = by_test _
     by_test false = (name, refl)
 still_some name other (Written bytes count) = (name, refl)
 
-never_none : (name : List ℕ) (es : List PlanEntry) → least_declared (Some name) es ≡ None → ⊥
+pub never_none : (name : List ℕ) (es : List PlanEntry) → least_declared (Some name) es ≡ None → ⊥
 never_none name [] none = cc
 never_none name (e ∷ es) none =
     let some = still_some name e.name e.image in

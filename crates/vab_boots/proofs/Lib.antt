@@ -1,6 +1,8 @@
 mod Begins
+mod Beside
 pub mod Booting
 mod Facts
+mod HeldStays
 mod Installing
 mod Keeping
 mod Overlaying

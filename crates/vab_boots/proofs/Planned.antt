@@ -1,7 +1,8 @@
 -- Of a state, the begin of an update, its edits and its images change the plan alone.
-use Rattle.std.proofs.Common.{◌≡◌, ℕ, ◌*◌, inl, inr, Bool, true, false, cond, List, [], ◌∷◌}
+use Rattle.std.proofs.Common.{◌≡◌, ◌≢◌, ℕ, ◌*◌, ◌<◌, inl, inr, Bool, true, false, cond, List, []}
+use Rattle.std.proofs.Common.{arith, ◌∷◌}
 use Rattle.std.proofs.Common.{length, Option, Some, None, Result, Ok, Err, refl, sym, ap, subst}
-use Rattle.std.specs.Prelude.{nat_lt, nat_le}
+use Rattle.std.specs.Prelude.{is_some, map, nat_lt, nat_le, not}
 use Rattle.vab_names.specs.Names.{is_full, base_of}
 use Rattle.vab_space.specs.declared.Chunk.{Chunk}
 use Rattle.vab_space.specs.Chunks.{need_at}
@@ -17,12 +18,16 @@ use Rattle.vab_model.specs.declared.state.Phase.TheVariants.{Idle, Installing, S
 use Rattle.vab_model.specs.declared.state.Physical.{Physical}
 use Rattle.vab_model.specs.declared.command.Refusal.{Refusal}
 use Rattle.vab_model.specs.declared.command.Refusal.TheVariants as refusals
+use Rattle.vab_model.specs.declared.state.State.{State}
+use Rattle.vab_model.specs.declared.command.Reply.TheVariants as replies
 use Rattle.vab_model.specs.Commands.{Flash}
-use Rattle.vab_model.specs.Effects.{Effect, IsOneOf, refuses, wanting}
-use Rattle.vab_model.specs.Physical.{is_physical, physical_named}
-use Rattle.vab_model.specs.Plans.{entry_named, with_entries}
-use Rattle.vab_model.specs.Staged.{is_sparse}
-use Rattle.vab_device.specs.Mounted.{Mounted}
+use Rattle.vab_model.specs.Effects.{Effect, IsOneOf, does, effect_map, refuses, wanting}
+use Rattle.vab_model.specs.Physical.{held_by, is_physical, physical_named, with_held}
+use Rattle.vab_model.specs.Machine.{flash_staged, if_installing, is_written, keep_held, keep_row}
+use Rattle.vab_model.specs.Machine.{keep_physical, physical_entry, unless}
+use Rattle.vab_model.specs.Plans.{entry_named, is_planned, with_entries}
+use Rattle.vab_model.specs.Staged.{is_sparse, filled as filled_out}
+use Rattle.vab_device.specs.Mounted.{Mounted, in_state}
 use Rattle.vab_device.specs.Flashed.{staged_effect, unwritten_effect, in_store, in_place}
 use Rattle.vab_device.specs.Flashed.{placed_effect, entry_effect, flash_effect, if_room, flashed}
 use Rattle.vab_device.specs.Flashed.{with_image, filled, differences, source_bytes}
@@ -31,14 +36,19 @@ use Rattle.vab_device.specs.Updates.{table_effect, replanned, no_entries, begun_
 use Rattle.vab_device.specs.Updates.{begin_effect, layout_at, EditOf, edited_effect, Guard}
 use Rattle.vab_device.specs.Updates.{unless_kept, edit_effect, effect_on}
 use Rattle.vab_device.proofs.FlashedLaws.{flash_by_blocks}
-use Rattle.vab_device.proofs.HeldLaws.{held_in, physical_makes}
+use Rattle.vab_boots.proofs.Beside.{held_beside}
 use Rattle.vab_boots.specs.Boots.{worked_of}
 
--- An update from this slot is installed, with this plan, and the physical partitions hold this.
--- Nothing else of the state has changed.
+-- An update from this slot is installed, with this plan, and the physical partitions hold this,
+-- where those of another slot than the target hold what they held. Nothing else of the state has
+-- changed.
 pub record IsPlanned (source : ℕ) (m next : Mounted) : Type 0 where
   pub plan : Plan
   pub physical : List Physical
+  pub held : (slot : ℕ)
+      → slot < 2
+      → slot ≢ other_slot source
+      → map (held_by slot) physical ≡ map (held_by slot) m.state.physical
   pub state : next.state
       ≡ record m.state { phase = Installing source plan; physical = physical }
 
@@ -67,7 +77,12 @@ module _ (m : Mounted) where
       → ArePlanned source (table_effect m source plan r).later
   tabled source plan (Ok l) =
       one source _
-      (record { plan = replanned source plan l; physical = m.state.physical; state = refl })
+      (record {
+        plan = replanned source plan l;
+        physical = m.state.physical;
+        held = λ slot below other. refl;
+        state = refl;
+      })
   tabled source plan (Err fault) = none source
 
   begun : (apart : Bool) (source : ℕ) (l : Option Layout)
@@ -119,6 +134,7 @@ module _ (m : Mounted) where
         plan = with_entries plan
             (with_image e.name (Written (filled staged e.blocks) n) plan.entries);
         physical = m.state.physical;
+        held = λ slot below other. refl;
         state = refl;
       })
 
@@ -174,25 +190,57 @@ module _ (m : Mounted) where
   found source plan k staged None = none source
   found source plan k staged (Some e) = placed source plan e k staged e.store
 
-  -- the physical partitions hold something else
-  holds : (source : ℕ) (plan : Plan) (ps : List Physical)
+  -- ---- a physical partition of the target
+
+  held : (source : ℕ) (plan : Plan) (name bytes : List ℕ)
       → m.state.phase ≡ Installing source plan
-      → ArePlanned source (held_in m ps ∷ [])
-  holds source plan ps is =
-      one source (held_in m ps) (record {
+      → ArePlanned source (in_state m (with_held m.state (other_slot source) name bytes) ∷ [])
+  held source plan name bytes is =
+      let target : ℕ = other_slot source in
+      let ps : List Physical = (with_held m.state target name bytes).physical in
+      one source _ (record {
         plan = plan;
         physical = ps;
+        held = λ slot below other.
+            held_beside slot target name bytes below (omega arith) other m.state.physical;
         state = ap (λ (p : Phase). record m.state { phase = p; physical = ps }) is;
       })
 
-  held : (source : ℕ) (plan : Plan) (target : ℕ) (staged : Option (List ℕ)) (p : Option Physical)
-      → m.state.phase ≡ Installing source plan
-      → ArePlanned source (physical_effect m target staged p).later
-  held source plan target staged p is =
-      physical_makes m (λ e. ArePlanned source e.later) (λ r. none source)
-      (λ ps. holds source plan ps is) target staged p
+  -- of a machine's row
+  unless_mapped : (source : ℕ) (b : Bool) (refusal : Refusal) (row : Effect State)
+      → ArePlanned source (effect_map (in_state m) row).later
+      → ArePlanned source (effect_map (in_state m) (unless b refusal row)).later
+  unless_mapped source true refusal row are = are
+  unless_mapped source false refusal row are = none source
 
-  flashes : (staged : Option (List ℕ)) (name : List ℕ) (k : Chunk) (phase : Phase)
+  stages : (source : ℕ) (plan : Plan) (e : PlanEntry) (name : List ℕ) (staged : Option (List ℕ))
+      → m.state.phase ≡ Installing source plan
+      → ArePlanned source
+      (effect_map (in_state m)
+      (flash_staged e
+      (λ bytes. does replies.Done (with_held m.state (other_slot source) name bytes)) staged)).later
+  stages source plan e name None is = none source
+  stages source plan e name (Some staged) is =
+      let large : Refusal = refusals.TooLarge (length staged) (4096 * e.blocks) in
+      let small : Bool = nat_le (length staged) (4096 * e.blocks) in
+      let bytes : List ℕ = filled_out staged e.blocks in
+      let done : Effect State =
+      does replies.Done (with_held m.state (other_slot source) name bytes) in
+      unless_mapped source (not (is_sparse staged)) refusals.Sparse (unless small large done)
+      (unless_mapped source small large done (held source plan name bytes is))
+
+  writes : (source : ℕ) (plan : Plan) (staged : Option (List ℕ)) (p : Option Physical)
+      → m.state.phase ≡ Installing source plan
+      → ArePlanned source (physical_effect m (other_slot source) staged p).later
+  writes source plan staged None is = none source
+  writes source plan staged (Some p) is =
+      let target : ℕ = other_slot source in
+      let e : PlanEntry = physical_entry p (held_by target p) in
+      unless_mapped source (not (is_written e.image)) refusals.Written
+      (flash_staged e (λ b. does replies.Done (with_held m.state target p.name b)) staged)
+      (stages source plan e p.name staged is)
+
+  pub flashes : (staged : Option (List ℕ)) (name : List ℕ) (k : Chunk) (phase : Phase)
       → m.state.phase ≡ phase
       → ArePlanned (worked_of phase m.state.control.current)
       (flash_effect m staged name k phase).later
@@ -208,7 +256,7 @@ module _ (m : Mounted) where
       (either source (is_physical base m.state.physical)
       (physical_effect m target staged p)
       (entry_effect m source plan k staged e)
-      (held source plan target staged p is)
+      (writes source plan staged p is)
       (found source plan k staged e))
       (none source)
   flashes staged name k (Staged source left) is = none source
@@ -223,3 +271,37 @@ module _ (m : Mounted) where
       ArePlanned (worked_of m.state.phase m.state.control.current) e.later)
       (sym (flash_by_blocks m staged name k))
       (flashes staged name k m.state.phase refl)
+
+  -- ---- a keep
+
+  keeps : (source : ℕ) (plan : Plan) (p : Physical) (bytes : Option (List ℕ))
+      → m.state.phase ≡ Installing source plan
+      → ArePlanned source
+      (effect_map (in_state m) (keep_held m.state (other_slot source) p bytes)).later
+  keeps source plan p None is = none source
+  keeps source plan p (Some bytes) is = held source plan p.name bytes is
+
+  kept : (source : ℕ) (plan : Plan) (known : Bool) (p : Option Physical)
+      → m.state.phase ≡ Installing source plan
+      → ArePlanned source (effect_map (in_state m) (keep_physical m.state source known p)).later
+  kept source plan known None is =
+      unless_mapped source known refusals.Unknown (refuses refusals.NotPhysical) (none source)
+  kept source plan known (Some p) is =
+      let target : ℕ = other_slot source in
+      unless_mapped source (not (is_some (held_by target p))) refusals.Written
+      (keep_held m.state target p (held_by source p))
+      (keeps source plan p (held_by source p) is)
+
+  pub keeps_by : (name : List ℕ) (phase : Phase)
+      → m.state.phase ≡ phase
+      → ArePlanned (worked_of phase m.state.control.current)
+      (effect_map (in_state m) (if_installing phase (keep_row m.state name))).later
+  keeps_by name Idle is = none m.state.control.current
+  keeps_by name (Installing source plan) is =
+      let base : List ℕ = base_of name in
+      let p : Option Physical = physical_named base m.state.physical in
+      unless_mapped source (is_full (other_slot source) name) refusals.BadName
+      (keep_physical m.state source (is_planned base plan.entries) p)
+      (kept source plan (is_planned base plan.entries) p is)
+  keeps_by name (Staged source left) is = none source
+  keeps_by name (Merging target left) is = none target

@@ -1,5 +1,6 @@
 pub mod Begun
 pub mod Boots
+pub mod Held
 pub mod Images
 pub mod Installed
 pub mod Overlaid

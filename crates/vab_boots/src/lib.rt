@@ -3,12 +3,14 @@
 #![tactic(auto)]
 
 mod boots;
+mod held;
 mod images;
 mod installs;
 mod overlays;
 mod wipes;
 
 pub use boots::{always_boots, begun_merge_stands_alone};
+pub use held::physical_images_stay;
 pub use images::finished_images;
 pub use installs::running_slot_stays;
 pub use overlays::{overlay_leaves_the_device, sessions_write_over, writes_are_read};
