@@ -11,4 +11,6 @@ mod overlay;
 #[cfg(test)]
 mod pair;
 #[cfg(test)]
+mod physical;
+#[cfg(test)]
 mod tests;
