@@ -110,10 +110,10 @@ module _ (image : Image) (size : ℕ) (whole : AreSectors size image) where
         cap = is.cap;
       }
 
--- the partitions of a slot of a device are on the disk
+-- the partitions of a slot of a device are in `super`
 pub present_at : (d : Device) (t : Tables) (size slot : ℕ)
     → IsDevice (with_tables t d) size
-    → ArePresent size (if slot == 0 then d.a else d.b)
+    → ArePresent d.tail.super_end (if slot == 0 then d.a else d.b)
 present_at d t size slot is = elim (cases_Bool (eqb slot 0)) [
   | inl h ↦ rw h is.parts_a
   | inr h ↦ rw h is.parts_b

@@ -16,16 +16,16 @@ use Rattle.vab_device.specs.Kept.{copies_end}
 use Rattle.vab_device.specs.Mounted.{Mounted}
 use Rattle.vab_device.specs.Phases.{phase_at}
 use Rattle.vab_device.specs.Reading.{Read, mark_read, mark_in, statuses_at, geometry_at, device}
-use Rattle.vab_device.specs.Reading.{stores_of, kept, Reads, SameRead}
+use Rattle.vab_device.specs.Reading.{stores_of, kept, Reads, SameRead, whole_disk, tail_at}
 use Rattle.vab_device.proofs.Behind.{images_behind, stores_behind, plan_behind, overlay_behind}
 use Rattle.vab_device.proofs.OpeningLaws.{control_seen_in, device_small}
 use Rattle.vab_device.proofs.ReadingLaws.{DeviceWas, device_was, device_same}
-use Rattle.vab_device.proofs.SameLaws.{geometry_same, images_same}
+use Rattle.vab_device.proofs.SameLaws.{tail_kept, geometry_same, images_same}
 use Rattle.vab_device.proofs.StoreLaws.{statuses_kept, stores_kept, plan_kept, overlay_kept}
 use Rattle.vab_recover.specs.Behind.{SameSuper}
-use Rattle.vab_recover.specs.Opened.{IsMarked, IsHeaded}
+use Rattle.vab_recover.specs.Opened.{IsMarked, IsHeaded, ends_at}
 use Rattle.vab_recover.proofs.BehindLaws.{tables_as}
-use Rattle.vab_recover.proofs.FrameLaws.{no_geometry}
+use Rattle.vab_recover.proofs.FrameLaws.{no_ends}
 use Rattle.vab_adopt.specs.Adopted.{adopted, adopted_control, control_sector, with_heads}
 use Rattle.vab_adopt.specs.Adopted.{HasHeadsOf}
 use Rattle.vab_adopt.proofs.SectorLaws.{control_there, mark_there}
@@ -108,9 +108,12 @@ module _
         control =
             control_seen_in a b other (adopted_control slot) is_too.control.control
             ∙ sym (control_seen_in a b one (adopted_control slot) is.control.control);
+        tail = tail_kept r.mark.physical size one other
+            (λ some. stays 2113 (λ e. omega (arith, e)) (λ e. omega (arith, e)));
         geometry =
-            geometry_same size one other (super 4104 (omega arith)) (super 4112 (omega arith));
-        tables = tables_as size r.geometry (phase_at r.mark).tables one other
+            geometry_same r.tail.super_end one other (super 4104 (omega arith))
+            (super 4112 (omega arith));
+        tables = tables_as r.tail.super_end r.geometry (phase_at r.mark).tables one other
             super;
         stores = stores_kept (stores_of r) one other r.scanned
             (λ s there. super s (stores_behind size 4096 r one s reads within there))
@@ -169,12 +172,19 @@ module _
       geometry_same size image (with_heads slot image) (super 4104 (omega arith))
       (super 4112 (omega arith))
 
+  -- there are no physical partitions
+  no_tail : tail_at false size (with_heads slot image) ≡ Ok (whole_disk size)
+  unfolding tail_at
+  no_tail = refl
+
   pub heads_read : (g : Geometry)
       → geometry_at size image ≡ Ok g
-      → IsHeaded size (with_heads slot image) (idle_mark slot) Two [] (adopted_control slot) g
+      → IsHeaded size (with_heads slot image) (idle_mark slot) Two [] (adopted_control slot)
+      (whole_disk size) g
   heads_read g geometry = record {
     marked = marked;
     control = has.control.control;
+    ends = no_tail;
     geometry = same_geometry ∙ geometry;
   }
 
@@ -184,9 +194,12 @@ module _
       → adopted size slot image ≡ Err f
   unfolding adopted
   none_read f bad =
-      no_geometry size (with_heads slot image) (idle_mark slot) Two [] (adopted_control slot)
+      no_ends size (with_heads slot image) (idle_mark slot) Two [] (adopted_control slot)
       f marked
-      has.control.control (same_geometry ∙ bad)
+      has.control.control bad_ends
+    where
+      bad_ends : ends_at false size (with_heads slot image) ≡ Err f
+      bad_ends = rw (no_tail, same_geometry ∙ bad) refl
 
 -- neither on too few sectors
 pub small_read : (size slot : ℕ) (image : Image)

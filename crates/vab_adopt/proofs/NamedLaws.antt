@@ -25,7 +25,7 @@ use Rattle.vab_device.specs.Phases.{idle, phase_at, slot_checks}
 use Rattle.vab_device.specs.Reading.{Read, control_in, device, frame, framed, geometry_at}
 use Rattle.vab_device.specs.Reading.{geometry_read, judged, mark_in, most_at, part_fault}
 use Rattle.vab_device.specs.Reading.{scanned_in, state_fault, stated, statuses_at, stores_of}
-use Rattle.vab_device.specs.Reading.{table_at}
+use Rattle.vab_device.specs.Reading.{table_at, tail_at}
 use Rattle.vab_device.specs.Stores.{Wanted, scans_in}
 use Rattle.vab_statuses.specs.Statuses.{written_in}
 use Rattle.vab_device.specs.Reading.{table_read, tables_in}
@@ -117,7 +117,7 @@ module _ (size slot : ℕ) where
       → control_in (slot == 0) (slot == 1) image ≡ Ok seen
       → Comes (IsOfSuper slot) IsHeadRead
       (framed size (idle_mark slot) (idle (idle_mark slot)) image)
-  unfolding statuses_at
+  unfolding statuses_at tail_at
   framed_comes image control =
       rw control
       (behind (IsOfSuper slot) Any IsHeadRead (geometry_at size image) _ (geometry_comes image)
@@ -298,6 +298,7 @@ refusal_named size slot image (NoDevice fault) below sector says = go fault says
     go (faults.TooSmall need have) says = tt
     go (faults.BadMark s) says = named (faults.BadMark s) (says tt)
     go (faults.BadControl f) says = named (faults.BadControl f) (says tt)
+    go faults.BadPhysical says = named faults.BadPhysical (says tt)
     go faults.BadGeometry says = tt
     go (faults.BadTable of) says = named (faults.BadTable of) (says tt)
     go (faults.BadPartition name) says = tt

@@ -35,6 +35,7 @@ pub not_disk : (f : StartFault) → IsOfContents f → IsOfDisk f → ⊥
 not_disk (faults.TooSmall need have) is disk = disk
 not_disk (faults.BadMark sector) is disk = disk
 not_disk (faults.BadControl fault) is disk = disk
+not_disk faults.BadPhysical is disk = disk
 not_disk faults.BadGeometry is disk = disk
 not_disk (faults.BadTable slot) is disk = disk
 not_disk (faults.BadPartition name) is disk = disk

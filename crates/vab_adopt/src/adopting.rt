@@ -33,6 +33,7 @@ fn is_of_contents(fault: &StartFault) -> bool
         StartFault::TooSmall(_, _)
         | StartFault::BadMark(_)
         | StartFault::BadControl(_)
+        | StartFault::BadPhysical
         | StartFault::BadGeometry
         | StartFault::BadTable(_)
         | StartFault::BadPartition(_)

@@ -13,7 +13,7 @@ use std::alloc::Global;
 use vab_device::{Device, StartFault};
 use vab_disk::Disk;
 use vab_marks::MarkVersion;
-use vab_recover::{Heads, MIN_SECTORS, Tables, open_behind, read_geometry};
+use vab_recover::{Heads, MIN_SECTORS, Tables, open_behind, read_geometry, whole_disk};
 use vab_statuses::Statuses;
 
 // The heads that the disk is to have, with the geometry that it has.
@@ -21,10 +21,11 @@ fn heads<D: Disk>(d: &mut D, slot: usize) -> Result<Heads, StartFault>
     requires slot { slot < 2 }
     ensures headed { D.is_modelled → IfOk result (λ h.
         IsHeaded (D.size d.old) (with_heads slot (D.seen d.old))
-        h.mark h.version h.statuses.items h.control h.geometry) }
+        h.mark h.version h.statuses.items h.control h.tail h.geometry) }
     ensures fault { D.is_modelled → IfErr result
         (λ f. IsOfContents f → adopted (D.size d.old) slot (D.seen d.old) ≡ Err f) }
-    ensures are { IfOk result (λ h. AreHeads (D.size d.old) h.mark h.control h.geometry) }
+    ensures are { IfOk result
+        (λ h. AreHeads (D.size d.old) h.mark h.control h.tail h.geometry) }
     ensures reads { OnlyReads D.Disk d.old d.new }
     ensures counts { CountsFaults D.Disk d.old d.new result }
 {
@@ -32,13 +33,14 @@ fn heads<D: Disk>(d: &mut D, slot: usize) -> Result<Heads, StartFault>
     if sectors < MIN_SECTORS {
         return Err(StartFault::TooSmall(MIN_SECTORS, sectors));
     }
-    match read_geometry(d) {
+    match read_geometry(d, sectors) {
         Err(fault) => Err(fault),
         Ok(geometry) => Ok(Heads {
             mark: idle_mark(slot),
             version: MarkVersion::Two,
             statuses: Statuses::new(),
             control: adopted_control(slot),
+            tail: whole_disk(sectors),
             geometry,
         }),
     }

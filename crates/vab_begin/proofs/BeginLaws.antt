@@ -22,6 +22,7 @@ use Rattle.vab_lpstore.proofs.StoreLaws.{both_table}
 use Rattle.vab_tables.specs.declared.table.Table.{Table}
 use Rattle.vab_tables.specs.Text.{IsTableText}
 use Rattle.vab_layout.specs.Layout.{layout_of, first_device}
+use Rattle.vab_physical.specs.declared.tail.Tail.{Tail}
 use Rattle.vab_layout.specs.Slots.{other_slot, twins_by, IsTargetBeside, groups_of_slot}
 use Rattle.vab_partitions.specs.Twins.{are_twins, are_devices}
 use Rattle.vab_partitions.proofs.TwinLaws.{twins_are, devices_are}
@@ -35,7 +36,7 @@ use Rattle.vab_device.specs.Mounted.{images_on}
 use Rattle.vab_device.specs.Phases.{own_check, twin_check, target_check, no_store_check}
 use Rattle.vab_device.specs.Phases.{slot_checks}
 use Rattle.vab_device.specs.Reading.{Read, statuses_read, statuses_at, control_in}
-use Rattle.vab_device.specs.Reading.{geometry_at, table_at, tables_in}
+use Rattle.vab_device.specs.Reading.{tail_at, geometry_at, table_at, tables_in}
 use Rattle.vab_device.specs.Reading.{stores_of, kept, Reads, AgreeCopies}
 use Rattle.vab_device.specs.Reading.{SameRead, IsOfTables}
 use Rattle.vab_device.specs.Stores.{Scanned, scans_in}
@@ -44,8 +45,8 @@ use Rattle.vab_device.proofs.CheckLaws.{first_kept}
 use Rattle.vab_device.proofs.OpeningLaws.{control_seen_in}
 use Rattle.vab_device.proofs.ReadingLaws.{control_is_seen}
 use Rattle.vab_device.proofs.RepairLaws.{end_of}
-use Rattle.vab_device.proofs.SameLaws.{mark_same, control_same, geometry_same, tables_agree}
-use Rattle.vab_device.proofs.SameLaws.{images_same}
+use Rattle.vab_device.proofs.SameLaws.{mark_same, control_same, tail_kept, geometry_same}
+use Rattle.vab_device.proofs.SameLaws.{tables_agree, images_same}
 use Rattle.vab_device.proofs.StoreLaws.{statuses_kept}
 use Rattle.vab_begin.specs.Writes.{IsOfPlaces}
 use Rattle.vab_device.proofs.Steps.{marked}
@@ -68,14 +69,16 @@ abbrev pub idle_shape : UpdateMark
     → ℕ
     → List (Option PartStatus)
     → Control
+    → Tail
     → Geometry
     → Table
     → List Scanned
     → Read
-idle_shape base slot ss c g t scanned = record {
+idle_shape base slot ss c tail g t scanned = record {
   mark = rephased marks.Idle (resloted slot base);
   statuses = ss;
   control = c;
+  tail = tail;
   geometry = g;
   tables = t ∷ [];
   scanned = scanned;
@@ -97,19 +100,20 @@ pub record IsPrepared (d : Device) (text : List ℕ) (mid : Image) : Type 0 wher
   pub stored : BothHold d.geometry (other_slot d.mark.slot) text mid
 
 module _
-    (base : UpdateMark) (slot : ℕ) (ss : List (Option PartStatus)) (seen : Control) (g : Geometry)
-    (s : Table)
+    (base : UpdateMark) (slot : ℕ) (ss : List (Option PartStatus)) (seen : Control) (tail : Tail)
+    (g : Geometry) (s : Table)
     (scanned : List Scanned) (c : Control)
     (told : Type 0) (text : List ℕ) (size : ℕ) (old mid : Image)
     (below : slot < 2)
     (rules : IsGeometry g)
     (short : length text ≤ g.max)
     (same : SameBut
-    (IsOfPlaces told (kept_with (idle_shape base slot ss seen g s scanned) c) text (old 4)) old mid)
-    (reads : Reads size (idle_shape base slot ss seen g s scanned) old)
+    (IsOfPlaces told (kept_with (idle_shape base slot ss seen tail g s scanned) c) text (old 4))
+    old mid)
+    (reads : Reads size (idle_shape base slot ss seen tail g s scanned) old)
     (whole : control_of (old 4) ≡ Ok c) where
   abbrev r : Read
-  r = idle_shape base slot ss seen g s scanned
+  r = idle_shape base slot ss seen tail g s scanned
 
   abbrev k : ℕ
   k = other_slot slot
@@ -122,8 +126,8 @@ module _
   stay at control statuses table = by_write (same at)
     where
       by_write : (mid at ≡ old at)
-          ⊎ IsOfPlaces told (kept_with (idle_shape base slot ss seen g s scanned) c) text (old 4) at
-          (mid at)
+          ⊎ IsOfPlaces told (kept_with (idle_shape base slot ss seen tail g s scanned) c) text
+          (old 4) at (mid at)
           → mid at ≡ old at
       by_write (inl is) = is
       by_write (inr (inl (inl w))) = absurd (control w.at)
@@ -163,8 +167,8 @@ module _
           ∙ sym (control_seen_in (slot == 0) (slot == 1) old c whole)
 
       by_write : (mid 4 ≡ old 4)
-          ⊎ IsOfPlaces told (kept_with (idle_shape base slot ss seen g s scanned) c) text (old 4) 4
-          (mid 4)
+          ⊎ IsOfPlaces told (kept_with (idle_shape base slot ss seen tail g s scanned) c) text
+          (old 4) 4 (mid 4)
           → control_in (slot == 0) (slot == 1) mid ≡ control_in (slot == 0) (slot == 1) old
       by_write (inl is) = control_same (slot == 0) (slot == 1) old mid is
       by_write (inr (inl (inl w))) = by_control w.control
@@ -173,9 +177,14 @@ module _
           absurd (let from = copies_from g (other_slot slot ∷ []) 4
           (table_in g (other_slot slot) text 4 (mid 4) rules short w) in omega (arith, from))
 
-  geometry_stays : geometry_at size mid ≡ geometry_at size old
+  tail_stays : tail_at base.physical size mid ≡ tail_at base.physical size old
+  tail_stays =
+      tail_kept base.physical size old mid
+      (λ some. low 2113 (λ e. omega (arith, e)) (λ w. omega (arith, w.below)) (omega arith))
+
+  geometry_stays : geometry_at tail.super_end mid ≡ geometry_at tail.super_end old
   geometry_stays =
-      geometry_same size old mid
+      geometry_same tail.super_end old mid
       (low 4104 (λ e. omega (arith, e)) (λ w. omega (arith, w.below)) (omega arith))
       (low 4112 (λ e. omega (arith, e)) (λ w. omega (arith, w.below)) (omega arith))
 
@@ -194,15 +203,16 @@ module _
   mark_stays : mid 2048 ≡ old 2048
   mark_stays = low 2048 (λ e. omega (arith, e)) (λ w. omega (arith, w.from)) (omega arith)
 
-  pub same_read : SameRead size (idle_shape base slot ss seen g s scanned) old mid
+  pub same_read : SameRead size (idle_shape base slot ss seen tail g s scanned) old mid
   same_read = record {
     most = most_same old mid mark_stays;
     mark = mark_same old mid mark_stays;
     statuses = statuses_kept false old mid (version_same old mid mark_stays)
         (λ no. absurd (let e : false ≡ true = no in cc));
     control = seen_same;
+    tail = tail_stays;
     geometry = geometry_stays;
-    tables = tables_agree size g (slot ∷ []) old mid own_table;
+    tables = tables_agree tail.super_end g (slot ∷ []) old mid own_table;
     stores = refl;
     images_a = images_a;
     images_b = images_b;
@@ -221,8 +231,8 @@ module _
       (device : u.devices ≡ s.devices)
       (groups : groups_of_slot (other_slot slot) u.groups ≡ groups_of_slot slot s.groups)
       (stands : IsTableText g.max text u)
-      (lies : lies_in size g (layout_of s).device ≡ true)
-      (prepared : IsPrepared (kept_with (idle_shape base slot ss seen g s scanned) c) text mid)
+      (lies : lies_in tail.super_end g (layout_of s).device ≡ true)
+      (prepared : IsPrepared (kept_with (idle_shape base slot ss seen tail g s scanned) c) text mid)
       (copies : AgreeCopies g (slot ∷ []) (s ∷ []) old)
       (read : mark_of (mark_spelling (begun apart (resloted slot base)))
       ≡ Ok (begun apart (resloted slot base))) where
@@ -231,7 +241,7 @@ module _
 
     abbrev after : Read
     after = update_read (begun apart (resloted slot base)) no_statuses
-        (control_read_of slot c) g s u []
+        (control_read_of slot c) tail g s u []
 
     elsewhere : (at : ℕ) → at ≢ 2048 → new at ≡ mid at
     elsewhere at other = set_there mid 2048
@@ -245,11 +255,11 @@ module _
 
     table_there : (image : Image)
         → slot_table g (other_slot slot) image ≡ Ok u
-        → table_at size g (other_slot slot) image ≡ Ok u
+        → table_at tail.super_end g (other_slot slot) image ≡ Ok u
     unfolding table_at
     table_there image is =
-        let inside : lies_in size g (layout_of u).device ≡ true =
-        ap (lies_in size g) device_same ∙ lies in
+        let inside : lies_in tail.super_end g (layout_of u).device ≡ true =
+        ap (lies_in tail.super_end g) device_same ∙ lies in
         rw (is, inside) refl
 
     own_new : (at : ℕ) → IsOfTables g (slot ∷ []) at → new at ≡ old at
@@ -263,18 +273,18 @@ module _
     stored_new : BothHold g (other_slot slot) text new
     stored_new = copy_stays g (other_slot slot) text mid new other_new prepared.stored
 
-    source_new : table_at size g slot new ≡ Ok s
+    source_new : table_at tail.super_end g slot new ≡ Ok s
     source_new =
-        let one = one_of size g slot new (s ∷ [])
-        (tables_agree size g (slot ∷ []) old new own_new ∙ reads.tables) in
+        let one = one_of tail.super_end g slot new (s ∷ [])
+        (tables_agree tail.super_end g (slot ∷ []) old new own_new ∙ reads.tables) in
         let both : s ∷ [] ≡ one.0 ∷ [] = one.1 in
         one.2 ∙ (let e : one.0 ≡ s = cc in ap Ok e)
 
-    target_new : table_at size g (other_slot slot) new ≡ Ok u
+    target_new : table_at tail.super_end g (other_slot slot) new ≡ Ok u
     target_new =
         table_there new (both_table g (other_slot slot) text u new stored_new stands)
 
-    tables_new : tables_in size g (slot ∷ other_slot slot ∷ []) new ≡ Ok (s ∷ u ∷ [])
+    tables_new : tables_in tail.super_end g (slot ∷ other_slot slot ∷ []) new ≡ Ok (s ∷ u ∷ [])
     tables_new = rw (source_new, target_new) refl
 
     -- ---- the sectors with places of their own
@@ -301,9 +311,15 @@ module _
         control_seen_in (slot == 0) (slot == 1) new (cleared_of c (other_slot slot)) control_new
         ∙ ap Ok (cleared_seen slot c below)
 
-    geometry_new : geometry_at size new ≡ Ok g
+    tail_new : tail_at base.physical size new ≡ Ok tail
+    tail_new =
+        tail_kept base.physical size mid new
+        (λ some. elsewhere 2113 (λ e. omega (arith, e)))
+        ∙ tail_stays ∙ reads.tail
+
+    geometry_new : geometry_at tail.super_end new ≡ Ok g
     geometry_new =
-        geometry_same size mid new
+        geometry_same tail.super_end mid new
         (elsewhere 4104 (λ e. omega (arith, e)))
         (elsewhere 4112 (λ e. omega (arith, e)))
         ∙ geometry_stays ∙ reads.geometry
@@ -358,6 +374,7 @@ module _
           refl);
       statuses = statuses_new;
       control = seen_new;
+      tail = tail_new;
       geometry = geometry_new;
       tables = tables_new;
       parts = parts_two after new version_new

@@ -22,6 +22,7 @@ use Rattle.vab_layout.specs.declared.layout.Layout.{Layout}
 use Rattle.vab_layout.specs.Layout.{layout_of, table_of, first_device}
 use Rattle.vab_layout.specs.Slots.{other_slot, twins_by}
 use Rattle.vab_layout.specs.Plain.{plain}
+use Rattle.vab_physical.specs.declared.tail.Tail.{Tail}
 use Rattle.vab_builder.specs.declared.fault.EditFault.{EditFault}
 use Rattle.vab_builder.specs.declared.fault.EditFault.TheVariants as faults
 use Rattle.vab_builder.specs.Import.{imported_by}
@@ -326,18 +327,18 @@ refused_is apart m slot max s faults.NoMemory is =
 pub source_rules : (d : Device) (size : ℕ) (s : Table)
     → IsDevice d size
     → table_of_slot d d.mark.slot ≡ Some s
-    → IsTableOf size d.geometry d.mark.slot s
+    → IsTableOf d.tail.super_end d.geometry d.mark.slot s
 source_rules d size s dev is = elim (cases_slot d.mark.slot dev.slot) [
   | inl first ↦
       let there = slot_at d.mark.slot 0 d.table_a d.table_b (Some s) first is in
-      let kept : IsTableOf size d.geometry 0 s = subst (IsKeptTable size d.geometry 0) there
-      dev.table_a in
-      subst (λ (n : ℕ). IsTableOf size d.geometry n s) (sym first) kept
+      let kept : IsTableOf d.tail.super_end d.geometry 0 s =
+      subst (IsKeptTable d.tail.super_end d.geometry 0) there dev.table_a in
+      subst (λ (n : ℕ). IsTableOf d.tail.super_end d.geometry n s) (sym first) kept
   | inr one ↦
       let there = slot_at d.mark.slot 1 d.table_a d.table_b (Some s) one is in
-      let kept : IsTableOf size d.geometry 1 s = subst (IsKeptTable size d.geometry 1) there
-      dev.table_b in
-      subst (λ (n : ℕ). IsTableOf size d.geometry n s) (sym one) kept
+      let kept : IsTableOf d.tail.super_end d.geometry 1 s =
+      subst (IsKeptTable d.tail.super_end d.geometry 1) there dev.table_b in
+      subst (λ (n : ℕ). IsTableOf d.tail.super_end d.geometry n s) (sym one) kept
 ]
 
 pub device_same : (s u : Table)
@@ -385,9 +386,9 @@ begun_kept apart d size x dev idle plain for =
     let s = for.source in
     let of = for.target in
     let rules = source_rules d size s dev for.is in
-    let lies : lies_in size g (layout_of x.table).device ≡ true =
-    ap (lies_in size g) (device_same s x.table of.device) ∙ rules.lies in
-    let planned = plan_keeps size (other_slot d.mark.slot) g x.table dev.enough
+    let lies : lies_in d.tail.super_end g (layout_of x.table).device ≡ true =
+    ap (lies_in d.tail.super_end g) (device_same s x.table of.device) ∙ rules.lies in
+    let planned = plan_keeps d.tail.super_end (other_slot d.mark.slot) g x.table dev.enough
     (target_table (other_slot d.mark.slot) (twins_by apart (layout_of s).parts) (layout_of s).parts
     x.table of.rules of.target)
     lies in
@@ -414,26 +415,29 @@ begun_kept apart d size x dev idle plain for =
 kept_begun : (apart : Bool) (base : UpdateMark) (slot : ℕ) (c : Control)
     (ss : List (Option PartStatus))
     (seen : Control)
+    (tail : Tail)
     (g : Geometry)
     (s u : Table) (scanned : List Scanned)
     → slot < 2
-    → begun_device apart (kept_with (idle_shape base slot ss seen g s scanned) c) u
+    → begun_device apart (kept_with (idle_shape base slot ss seen tail g s scanned) c) u
     ≡ kept_with (update_read (begun apart (resloted slot base)) no_statuses
-    (control_read_of slot c) g s u [])
+    (control_read_of slot c) tail g s u [])
     (cleared_of c (other_slot slot))
-kept_begun apart base zero c ss seen g s u scanned below = refl
-kept_begun apart base (suc zero) c ss seen g s u scanned below = refl
-kept_begun apart base (suc (suc n)) c ss seen g s u scanned below = absurd (omega (arith, below))
+kept_begun apart base zero c ss seen tail g s u scanned below = refl
+kept_begun apart base (suc zero) c ss seen tail g s u scanned below = refl
+kept_begun apart base (suc (suc n)) c ss seen tail g s u scanned below =
+    absurd (omega (arith, below))
 
 kept_source : (base : UpdateMark) (slot : ℕ) (c : Control) (ss : List (Option PartStatus))
     (seen : Control)
+    (tail : Tail)
     (g : Geometry)
     (s : Table) (scanned : List Scanned)
     → slot < 2
-    → table_of_slot (kept_with (idle_shape base slot ss seen g s scanned) c) slot ≡ Some s
-kept_source base zero c ss seen g s scanned below = refl
-kept_source base (suc zero) c ss seen g s scanned below = refl
-kept_source base (suc (suc n)) c ss seen g s scanned below = absurd (omega (arith, below))
+    → table_of_slot (kept_with (idle_shape base slot ss seen tail g s scanned) c) slot ≡ Some s
+kept_source base zero c ss seen tail g s scanned below = refl
+kept_source base (suc zero) c ss seen tail g s scanned below = refl
+kept_source base (suc (suc n)) c ss seen tail g s scanned below = absurd (omega (arith, below))
 
 -- ---- from the form in which it is read to the device
 
@@ -468,52 +472,55 @@ module _ (told : Type 0) (apart : Bool) (text : List ℕ) (size : ℕ) (old : Im
       (marked mid (mark_spelling (begun apart d.mark)))
 
   module _
-      (base : UpdateMark) (slot : ℕ) (ss : List (Option PartStatus)) (seen : Control) (g : Geometry)
-      (s : Table)
+      (base : UpdateMark) (slot : ℕ) (ss : List (Option PartStatus)) (seen : Control) (tail : Tail)
+      (g : Geometry) (s : Table)
       (scanned : List Scanned) (c : Control) where
-    dead_shape : DeadOf (kept_with (idle_shape base slot ss seen g s scanned) c)
-        (idle_shape base slot ss seen g s scanned)
+    dead_shape : DeadOf (kept_with (idle_shape base slot ss seen tail g s scanned) c)
+        (idle_shape base slot ss seen tail g s scanned)
     dead_shape dev reads whole short new same =
-        same_read base slot ss seen g s scanned c told text size old new dev.slot dev.geometry short
+        same_read base slot ss seen tail g s scanned c told text size old new dev.slot
+        dev.geometry short
         same
         reads whole
 
     next_shape : (x : Target) (mid : Image)
-        → NextOf x mid (kept_with (idle_shape base slot ss seen g s scanned) c)
-        (idle_shape base slot ss seen g s scanned)
+        → NextOf x mid (kept_with (idle_shape base slot ss seen tail g s scanned) c)
+        (idle_shape base slot ss seen tail g s scanned)
     next_shape x mid dev for reads whole copies short same prepared stands read =
         let both : Some for.source ≡ Some s =
-        sym for.is ∙ kept_source base slot c ss seen g s scanned dev.slot in
+        sym for.is ∙ kept_source base slot c ss seen tail g s scanned dev.slot in
         let source : for.source ≡ s = cc in
         let of : IsTargetOf apart g.max slot s x =
         subst (λ (t : Table). IsTargetOf apart g.max slot t x) source for.target in
-        let rules = source_rules (kept_with (idle_shape base slot ss seen g s scanned) c) size s dev
-        (kept_source base slot c ss seen g s scanned dev.slot) in
-        let none = target_no_stores apart (kept_with (idle_shape base slot ss seen g s scanned) c)
+        let rules = source_rules (kept_with (idle_shape base slot ss seen tail g s scanned) c) size
+        s dev
+        (kept_source base slot c ss seen tail g s scanned dev.slot) in
+        let none = target_no_stores apart
+        (kept_with (idle_shape base slot ss seen tail g s scanned) c)
         size x dev for in
         record {
           represents = record {
             read = update_read (begun apart (resloted slot base)) no_statuses
                 (control_read_of slot c)
-                g s x.table [];
-            reads = reads_new base slot ss seen g s scanned c told text size old mid
+                tail g s x.table [];
+            reads = reads_new base slot ss seen tail g s scanned c told text size old mid
                 dev.slot dev.geometry short same reads whole apart x.table of.target none of.device
                 of.groups stands rules.lies prepared copies read;
-            is = kept_begun apart base slot c ss seen g s x.table scanned dev.slot;
-            control = control_new base slot ss seen g s scanned c told text size old mid
+            is = kept_begun apart base slot c ss seen tail g s x.table scanned dev.slot;
+            control = control_new base slot ss seen tail g s scanned c told text size old mid
                 dev.slot dev.geometry short same reads whole apart x.table of.target none of.device
                 of.groups stands rules.lies prepared copies read;
-            copies = copies_new base slot ss seen g s scanned c told text size old mid
+            copies = copies_new base slot ss seen tail g s scanned c told text size old mid
                 dev.slot dev.geometry short same reads whole apart x.table of.target none of.device
                 of.groups stands rules.lies prepared copies read;
-            version = version_new base slot ss seen g s scanned c told text size old mid
+            version = version_new base slot ss seen tail g s scanned c told text size old mid
                 dev.slot dev.geometry short same reads whole apart x.table of.target none of.device
                 of.groups stands rules.lies prepared copies read;
           };
-          images_a = images_new_a base slot ss seen g s scanned c told text size old mid
+          images_a = images_new_a base slot ss seen tail g s scanned c told text size old mid
               dev.slot dev.geometry short same reads whole apart x.table of.target none of.device
               of.groups stands rules.lies prepared copies read;
-          images_b = images_new_b base slot ss seen g s scanned c told text size old mid
+          images_b = images_new_b base slot ss seen tail g s scanned c told text size old mid
               dev.slot dev.geometry short same reads whole apart x.table of.target none of.device
               of.groups stands rules.lies prepared copies read;
         }
@@ -533,11 +540,13 @@ module _ (told : Type 0) (apart : Bool) (text : List ℕ) (size : ℕ) (old : Im
     phase : is.read.mark.phase ≡ marks.Idle
     phase = sym (ap (λ (k : Device). k.mark.phase) is.is) ∙ idle
 
-    one : (t : Table) × (r.tables ≡ t ∷ []) × (table_at size r.geometry r.mark.slot old ≡ Ok t)
+    one : (t : Table) × (r.tables ≡ t ∷ [])
+        × (table_at r.tail.super_end r.geometry r.mark.slot old ≡ Ok t)
     one =
-        one_of size r.geometry r.mark.slot old r.tables
-        (subst (λ (p : MarkPhase). tables_in size r.geometry (phase_in p r.mark).tables old
-        ≡ Ok r.tables)
+        one_of r.tail.super_end r.geometry r.mark.slot old r.tables
+        (subst
+        (λ (p : MarkPhase).
+        tables_in r.tail.super_end r.geometry (phase_in p r.mark).tables old ≡ Ok r.tables)
         phase is.reads.tables)
 
     phased : is.read.mark ≡ rephased marks.Idle is.read.mark
@@ -546,13 +555,14 @@ module _ (told : Type 0) (apart : Bool) (text : List ℕ) (size : ℕ) (old : Im
         (sym (ap (λ (k : Device). k.mark.overlaid) is.is) ∙ plain) phase
 
     abbrev shaped : Read
-    shaped = idle_shape r.mark r.mark.slot r.statuses r.control r.geometry one.0 r.scanned
+    shaped = idle_shape r.mark r.mark.slot r.statuses r.control r.tail r.geometry one.0 r.scanned
 
     shape : r ≡ shaped
     shape = (λ i. record {
       mark = phased i;
       statuses = r.statuses;
       control = r.control;
+      tail = r.tail;
       geometry = r.geometry;
       tables = one.1 i;
       scanned = r.scanned;
@@ -565,7 +575,8 @@ module _ (told : Type 0) (apart : Bool) (text : List ℕ) (size : ℕ) (old : Im
     begin_dead =
         subst (λ (x : Read). DeadOf d x) (sym shape)
         (subst (λ (k : Device). DeadOf k shaped) (sym form)
-        (dead_shape r.mark r.mark.slot r.statuses r.control r.geometry one.0 r.scanned d.control))
+        (dead_shape r.mark r.mark.slot r.statuses r.control r.tail r.geometry one.0 r.scanned
+        d.control))
         dev is.reads is.control short
 
     module _
@@ -582,8 +593,8 @@ module _ (told : Type 0) (apart : Bool) (text : List ℕ) (size : ℕ) (old : Im
       next =
           subst (λ (y : Read). NextOf x mid d y) (sym shape)
           (subst (λ (k : Device). NextOf x mid k shaped) (sym form)
-          (next_shape r.mark r.mark.slot r.statuses r.control r.geometry one.0 r.scanned d.control x
-          mid))
+          (next_shape r.mark r.mark.slot r.statuses r.control r.tail r.geometry one.0 r.scanned
+          d.control x mid))
           dev for is.reads is.control is.copies short same prepared stands read
 
       means : mounted_on (begun_device apart d x.table) new

@@ -14,6 +14,7 @@ use Rattle.vab_marks.specs.Mark.{mark_of, mark_spelling, rephased, resloted}
 use Rattle.vab_geometry.specs.declared.geometry.Geometry.{Geometry}
 use Rattle.vab_tables.specs.declared.table.Table.{Table}
 use Rattle.vab_layout.specs.Slots.{other_slot}
+use Rattle.vab_physical.specs.declared.tail.Tail.{Tail}
 use Rattle.vab_model.specs.declared.command.Reply.TheVariants as replies
 use Rattle.vab_model.specs.declared.command.Refusal.TheVariants as refusals
 use Rattle.vab_model.specs.Commands.{Cancel}
@@ -34,7 +35,7 @@ use Rattle.vab_device.proofs.Behind.{images_behind}
 use Rattle.vab_device.proofs.CheckLaws.{first_kept}
 use Rattle.vab_device.proofs.IdleLaws.{reads_idle}
 use Rattle.vab_device.proofs.OpeningLaws.{control_seen_in}
-use Rattle.vab_device.proofs.SameLaws.{geometry_same, tables_agree, images_same}
+use Rattle.vab_device.proofs.SameLaws.{tail_kept, geometry_same, tables_agree, images_same}
 use Rattle.vab_begin.specs.Kept.{without_update}
 use Rattle.vab_begin.specs.Writes.{MayEnd}
 use Rattle.vab_device.proofs.Steps.{marked, IsStep}
@@ -55,25 +56,25 @@ use Rattle.vab_device.proofs.ReadingLaws.{bare_known}
 -- ---- what is kept
 
 kept_ended : (base : UpdateMark) (phase : MarkPhase) (slot : ℕ) (c : Control)
-    (ss : List (Option PartStatus)) (seen : Control) (g : Geometry) (t u : Table)
+    (ss : List (Option PartStatus)) (seen : Control) (tail : Tail) (g : Geometry) (t u : Table)
     (scanned : List Scanned)
     → reads_both phase ≡ true
     → slot < 2
     → without_update (kept_with
-    (update_read (record base { phase = phase; slot = slot }) ss seen g t u scanned) c)
-    ≡ kept_with (idle_read (rephased marks.Idle (resloted slot base)) c g t) c
-kept_ended base marks.Installing zero c ss seen g t u scanned both below = refl
-kept_ended base marks.Installing (suc zero) c ss seen g t u scanned both below = refl
-kept_ended base marks.Staged zero c ss seen g t u scanned both below = refl
-kept_ended base marks.Staged (suc zero) c ss seen g t u scanned both below = refl
-kept_ended base phase (suc (suc n)) c ss seen g t u scanned both below =
+    (update_read (record base { phase = phase; slot = slot }) ss seen tail g t u scanned) c)
+    ≡ kept_with (idle_read (rephased marks.Idle (resloted slot base)) c tail g t) c
+kept_ended base marks.Installing zero c ss seen tail g t u scanned both below = refl
+kept_ended base marks.Installing (suc zero) c ss seen tail g t u scanned both below = refl
+kept_ended base marks.Staged zero c ss seen tail g t u scanned both below = refl
+kept_ended base marks.Staged (suc zero) c ss seen tail g t u scanned both below = refl
+kept_ended base phase (suc (suc n)) c ss seen tail g t u scanned both below =
     absurd (omega (arith, below))
-kept_ended base marks.Idle zero c ss seen g t u scanned both below = absurd cc
-kept_ended base marks.Idle (suc zero) c ss seen g t u scanned both below = absurd cc
-kept_ended base marks.Merging zero c ss seen g t u scanned both below = absurd cc
-kept_ended base marks.Merging (suc zero) c ss seen g t u scanned both below = absurd cc
-kept_ended base marks.Completed zero c ss seen g t u scanned both below = absurd cc
-kept_ended base marks.Completed (suc zero) c ss seen g t u scanned both below = absurd cc
+kept_ended base marks.Idle zero c ss seen tail g t u scanned both below = absurd cc
+kept_ended base marks.Idle (suc zero) c ss seen tail g t u scanned both below = absurd cc
+kept_ended base marks.Merging zero c ss seen tail g t u scanned both below = absurd cc
+kept_ended base marks.Merging (suc zero) c ss seen tail g t u scanned both below = absurd cc
+kept_ended base marks.Completed zero c ss seen tail g t u scanned both below = absurd cc
+kept_ended base marks.Completed (suc zero) c ss seen tail g t u scanned both below = absurd cc
 
 -- an update's phases read both tables
 ends_both : (d : Device) → MayEnd d → reads_both d.mark.phase ≡ true
@@ -216,10 +217,10 @@ module _
       (set_here old 2048 (mark_spelling (rephased marks.Idle d.mark)) 2048 refl)
 
   two : (t : Table) × (u : Table) × (r.tables ≡ t ∷ u ∷ [])
-      × (table_at size r.geometry r.mark.slot old ≡ Ok t)
+      × (table_at r.tail.super_end r.geometry r.mark.slot old ≡ Ok t)
   two =
-      two_of size r.geometry r.mark.slot (other_slot r.mark.slot) old r.tables
-      (subst (λ (slots : List ℕ). tables_in size r.geometry slots old ≡ Ok r.tables)
+      two_of r.tail.super_end r.geometry r.mark.slot (other_slot r.mark.slot) old r.tables
+      (subst (λ (slots : List ℕ). tables_in r.tail.super_end r.geometry slots old ≡ Ok r.tables)
       (both_tables r.mark.phase r.mark both) is.reads.tables)
 
   abbrev t : Table
@@ -227,13 +228,14 @@ module _
 
   abbrev shaped : Read
   shaped =
-      update_read r.mark r.statuses r.control r.geometry two.0 two.1 r.scanned
+      update_read r.mark r.statuses r.control r.tail r.geometry two.0 two.1 r.scanned
 
   shape : r ≡ shaped
   shape = (λ i. record {
     mark = r.mark;
     statuses = r.statuses;
     control = r.control;
+    tail = r.tail;
     geometry = r.geometry;
     tables = two.2 i;
     scanned = r.scanned;
@@ -265,12 +267,12 @@ module _
   control_new : control_of (new 4) ≡ Ok d.control
   control_new = ap control_of (elsewhere 4 (λ e. omega (arith, e))) ∙ is.control
 
-  table_new : table_at size r.geometry r.mark.slot new ≡ Ok two.0
+  table_new : table_at r.tail.super_end r.geometry r.mark.slot new ≡ Ok two.0
   table_new =
-      let same = tables_agree size r.geometry (r.mark.slot ∷ []) old new of_tables in
-      let here : tables_in size r.geometry (r.mark.slot ∷ []) old ≡ Ok (two.0 ∷ []) =
+      let same = tables_agree r.tail.super_end r.geometry (r.mark.slot ∷ []) old new of_tables in
+      let here : tables_in r.tail.super_end r.geometry (r.mark.slot ∷ []) old ≡ Ok (two.0 ∷ []) =
       rw two.3 refl in
-      let one = one_of size r.geometry r.mark.slot new (two.0 ∷ []) (same ∙ here) in
+      let one = one_of r.tail.super_end r.geometry r.mark.slot new (two.0 ∷ []) (same ∙ here) in
       let both : two.0 ∷ [] ≡ one.0 ∷ [] = one.1 in
       one.2 ∙ (let e : one.0 ≡ two.0 = cc in ap Ok e)
 
@@ -284,24 +286,29 @@ module _
       (mark_there (rephased marks.Idle d.mark) new refl bare read
       (set_here old 2048 (mark_spelling (rephased marks.Idle d.mark)) 2048 refl))
 
-  reads : Reads size (idle_read (rephased marks.Idle r.mark) d.control r.geometry two.0) new
+  reads : Reads size (idle_read (rephased marks.Idle r.mark) d.control r.tail r.geometry two.0) new
   reads =
       reads_idle size new (rephased marks.Idle r.mark) is.reads.enough mark_new refl d.control
-      r.geometry
+      r.tail r.geometry
       two.0 refl
       (control_seen_in _ _ new d.control control_new)
-      (geometry_same size old new
+      (tail_kept r.mark.physical size old new
+      (λ some. elsewhere 2113 (λ e. omega (arith, e)))
+      ∙ is.reads.tail)
+      (geometry_same r.tail.super_end old new
       (elsewhere 4104 (λ e. omega (arith, e)))
       (elsewhere 4112 (λ e. omega (arith, e)))
       ∙ is.reads.geometry)
       table_new own_rules (source_runs d size old dev is ends)
 
   kept_is : next
-      ≡ kept_with (idle_read (rephased marks.Idle r.mark) d.control r.geometry two.0) d.control
+      ≡ kept_with (idle_read (rephased marks.Idle r.mark) d.control r.tail r.geometry two.0)
+      d.control
   kept_is =
       ap without_update
       (is.is ∙ ap (λ (x : Read). kept_with x d.control) shape)
-      ∙ kept_ended r.mark r.mark.phase r.mark.slot d.control r.statuses r.control r.geometry two.0
+      ∙ kept_ended r.mark r.mark.phase r.mark.slot d.control r.statuses r.control r.tail
+      r.geometry two.0
       two.1
       r.scanned both (omega (arith, dev.slot, own))
 
@@ -324,7 +331,7 @@ module _
 
   represents : Represents next size new
   represents = record {
-    read = idle_read (rephased marks.Idle r.mark) d.control r.geometry two.0;
+    read = idle_read (rephased marks.Idle r.mark) d.control r.tail r.geometry two.0;
     reads = reads;
     is = kept_is;
     control = control_new;

@@ -116,12 +116,12 @@ ends_behind g slot s is below (inl a) =
 ends_behind g slot s is below (inr (inl b)) = b.below
 ends_behind g slot s is below (inr (inr none)) = absurd none
 
--- where the copies lie in `super`, they lie on the disk
-pub copies_on_disk : (g : Geometry) (slot size : ℕ)
+-- where the copies lie in `super`, they end where it ends or before
+pub copies_on_disk : (g : Geometry) (slot super_end : ℕ)
     → IsGeometry g
     → slot < 2
-    → 4120 ≤ size
-    → copies_end g ≤ super_bytes size
-    → backup_of g slot + copy_sectors g ≤ size
-copies_on_disk g slot size is below enough on =
+    → 4120 ≤ super_end
+    → copies_end g ≤ super_bytes super_end
+    → backup_of g slot + copy_sectors g ≤ super_end
+copies_on_disk g slot super_end is below enough on =
     omega (arith, ends_within g slot is below, enough, on)

@@ -124,10 +124,10 @@ pub update_kept : (d : Device) (size : ℕ) (c : Control) (phase : MarkPhase) (a
     → d.mark.overlaid ≡ false
     → has_both d.mark.phase ≡ false
     → has_both phase ≡ false
-    → IsKeptTable size d.geometry (other_slot d.mark.slot) t
+    → IsKeptTable d.tail.super_end d.geometry (other_slot d.mark.slot) t
     → is_some t ≡ reads_both phase
     → is_some plan ≡ is_installing phase
-    → ArePresent size plan
+    → ArePresent d.tail.super_end plan
     → IsUpdate apart d.mark.slot (table_of_slot d d.mark.slot) t
     → IsDevice (with_control c (with_update d (phased phase apart d.mark) t plan)) size
 update_kept d size c phase apart t plan is fits current known stands plain was one table there
@@ -141,6 +141,7 @@ update_kept d size c phase apart t plan is fits current known stands plain was o
     target_at d.mark.slot d.table_a d.table_b t is.slot in
     record {
       enough = is.enough;
+      ends = is.ends;
       geometry = is.geometry;
       control = fits;
       phase = known;
@@ -154,8 +155,10 @@ update_kept d size c phase apart t plan is fits current known stands plain was o
       copies_on = is.copies_on;
       parts_a = is.parts_a;
       parts_b = is.parts_b;
-      table_a = table_a_at d.mark.slot size d.geometry d.table_a t is.slot is.table_a table;
-      table_b = table_b_at d.mark.slot size d.geometry d.table_b t is.slot is.table_b table;
+      table_a =
+          table_a_at d.mark.slot d.tail.super_end d.geometry d.table_a t is.slot is.table_a table;
+      table_b =
+          table_b_at d.mark.slot d.tail.super_end d.geometry d.table_b t is.slot is.table_b table;
       source = ap is_some source ∙ is.source;
       target = ap is_some target ∙ there;
       planned = planned;
@@ -224,6 +227,7 @@ ended_kept d size is ends =
     target_at d.mark.slot d.table_a d.table_b None is.slot in
     record {
       enough = is.enough;
+      ends = is.ends;
       geometry = is.geometry;
       control = is.control;
       phase = inl refl;
@@ -233,10 +237,12 @@ ended_kept d size is ends =
       has_a = has_a_at d.mark.slot d.a is.slot (source_a d size is);
       has_b = has_b_at d.mark.slot d.b is.slot (source_b d size is);
       copies_on = is.copies_on;
-      parts_a = images_a_at d.mark.slot size d.a is.parts_a;
-      parts_b = images_b_at d.mark.slot size d.b is.parts_b;
-      table_a = table_a_at d.mark.slot size d.geometry d.table_a None is.slot is.table_a tt;
-      table_b = table_b_at d.mark.slot size d.geometry d.table_b None is.slot is.table_b tt;
+      parts_a = images_a_at d.mark.slot d.tail.super_end d.a is.parts_a;
+      parts_b = images_b_at d.mark.slot d.tail.super_end d.b is.parts_b;
+      table_a =
+          table_a_at d.mark.slot d.tail.super_end d.geometry d.table_a None is.slot is.table_a tt;
+      table_b =
+          table_b_at d.mark.slot d.tail.super_end d.geometry d.table_b None is.slot is.table_b tt;
       source = ap is_some source ∙ is.source;
       target = ap is_some target;
       planned = refl;
@@ -248,7 +254,7 @@ ended_kept d size is ends =
           (sym target) (no_target false d.mark.slot (table_of_slot d d.mark.slot))));
       overlaid = is.overlaid ∙ ends_plain d size is ends;
       overlay = subst
-          (IsOverlay size (parts_at (without_update d) d.mark.slot))
+          (IsOverlay d.tail.super_end (parts_at (without_update d) d.mark.slot))
           (sym (plain_none d size is (ends_plain d size is ends)))
           tt;
     }

@@ -58,6 +58,10 @@ fn write_contents<W: fmt::Write>(f: &mut fmt::Formatter<W>, fault: &StartFault) 
         StartFault::BadControl(fault) => {
             write!(f, "sector 4 is no boot control: {}", control_text(*fault))
         }
+        StartFault::BadPhysical => write!(
+            f,
+            "sector 2113 holds no sizes of physical partitions, or the disk is too small for them"
+        ),
         StartFault::BadGeometry => write!(
             f,
             "neither copy of the geometry passes, or the tables would pass the end of the disk"

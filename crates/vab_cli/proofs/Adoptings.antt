@@ -35,6 +35,7 @@ start_early : (f : StartFault) → is_silent_start f ≡ true → IsEarly (start
 start_early (start.TooSmall need have) is = cc
 start_early (start.BadMark sector) is = cc
 start_early (start.BadControl fault) is = cc
+start_early start.BadPhysical is = cc
 start_early start.BadGeometry is = cc
 start_early (start.BadTable slot) is = cc
 start_early (start.BadPartition name) is = cc
@@ -57,6 +58,7 @@ start_disk : (f : StartFault) → start_status f ≡ Disk → faults.IsOfDisk f
 start_disk (start.TooSmall need have) is = cc
 start_disk (start.BadMark sector) is = cc
 start_disk (start.BadControl fault) is = cc
+start_disk start.BadPhysical is = cc
 start_disk start.BadGeometry is = cc
 start_disk (start.BadTable slot) is = cc
 start_disk (start.BadPartition name) is = cc
@@ -73,6 +75,7 @@ start_loud : (f : StartFault) → is_silent_start f ≡ false → IsOfContents f
 start_loud (start.TooSmall need have) is = tt
 start_loud (start.BadMark sector) is = tt
 start_loud (start.BadControl fault) is = tt
+start_loud start.BadPhysical is = tt
 start_loud start.BadGeometry is = tt
 start_loud (start.BadTable slot) is = tt
 start_loud (start.BadPartition name) is = tt
@@ -99,6 +102,7 @@ start_told : (f : StartFault) → is_silent_start f ≡ false → start_status f
 start_told (start.TooSmall need have) is = refl
 start_told (start.BadMark sector) is = refl
 start_told (start.BadControl fault) is = refl
+start_told start.BadPhysical is = refl
 start_told start.BadGeometry is = refl
 start_told (start.BadTable slot) is = refl
 start_told (start.BadPartition name) is = refl
@@ -117,6 +121,7 @@ start_quiet : (f : StartFault) → start_status f ≡ NoMemory → start_line f 
 start_quiet (start.TooSmall need have) is = cc
 start_quiet (start.BadMark sector) is = cc
 start_quiet (start.BadControl fault) is = cc
+start_quiet start.BadPhysical is = cc
 start_quiet start.BadGeometry is = cc
 start_quiet (start.BadTable slot) is = cc
 start_quiet (start.BadPartition name) is = cc
@@ -134,6 +139,7 @@ start_failed : (f : StartFault) → IsFailed (start_status f) → start_line f �
 start_failed (start.TooSmall need have) is = absurd (none_held is)
 start_failed (start.BadMark sector) is = absurd (none_held is)
 start_failed (start.BadControl fault) is = absurd (none_held is)
+start_failed start.BadPhysical is = absurd (none_held is)
 start_failed start.BadGeometry is = absurd (none_held is)
 start_failed (start.BadTable slot) is = absurd (none_held is)
 start_failed (start.BadPartition name) is = absurd (none_held is)
@@ -152,6 +158,7 @@ start_loud_line : (f : StartFault) → is_silent_start f ≡ false → start_lin
 start_loud_line (start.TooSmall need have) is = refl
 start_loud_line (start.BadMark sector) is = refl
 start_loud_line (start.BadControl fault) is = refl
+start_loud_line start.BadPhysical is = refl
 start_loud_line start.BadGeometry is = refl
 start_loud_line (start.BadTable slot) is = refl
 start_loud_line (start.BadPartition name) is = refl
@@ -171,6 +178,7 @@ start_not_port : (f : StartFault) → start_status f ≢ Port
 start_not_port (start.TooSmall need have) is = cc
 start_not_port (start.BadMark sector) is = cc
 start_not_port (start.BadControl fault) is = cc
+start_not_port start.BadPhysical is = cc
 start_not_port start.BadGeometry is = cc
 start_not_port (start.BadTable slot) is = cc
 start_not_port (start.BadPartition name) is = cc

@@ -327,6 +327,7 @@ pub start_read : {R : Type 0} (f : StartFault) → start_status f ≡ Malformed 
 start_read (start.TooSmall need have) is = cc
 start_read (start.BadMark sector) is = cc
 start_read (start.BadControl fault) is = cc
+start_read start.BadPhysical is = cc
 start_read start.BadGeometry is = cc
 start_read (start.BadTable slot) is = cc
 start_read (start.BadPartition name) is = cc

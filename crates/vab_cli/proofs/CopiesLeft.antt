@@ -49,6 +49,7 @@ pub start_unanswered : (fault : StartFault) → IsAnswered (start_status fault) 
 start_unanswered (start.TooSmall need have) is = is
 start_unanswered (start.BadMark sector) is = is
 start_unanswered (start.BadControl fault) is = is
+start_unanswered start.BadPhysical is = is
 start_unanswered start.BadGeometry is = is
 start_unanswered (start.BadTable slot) is = is
 start_unanswered (start.BadPartition name) is = is

@@ -71,6 +71,7 @@ pub contents_of : (f : StartFault) → start_status f ≡ NotADevice → IsOfCon
 contents_of (start.TooSmall need have) is = tt
 contents_of (start.BadMark sector) is = tt
 contents_of (start.BadControl fault) is = tt
+contents_of start.BadPhysical is = tt
 contents_of start.BadGeometry is = tt
 contents_of (start.BadTable slot) is = tt
 contents_of (start.BadPartition name) is = tt
@@ -83,6 +84,7 @@ pub early_of : (f : StartFault) → start_status f ≢ NotADevice → IsEarly (s
 early_of (start.TooSmall need have) other = absurd (other refl)
 early_of (start.BadMark sector) other = absurd (other refl)
 early_of (start.BadControl fault) other = absurd (other refl)
+early_of start.BadPhysical other = absurd (other refl)
 early_of start.BadGeometry other = absurd (other refl)
 early_of (start.BadTable slot) other = absurd (other refl)
 early_of (start.BadPartition name) other = absurd (other refl)
@@ -96,6 +98,7 @@ pub not_of_disk_by : (f : StartFault) → start_status f ≢ Disk → IsOfDisk f
 not_of_disk_by (start.TooSmall need have) other is = is
 not_of_disk_by (start.BadMark sector) other is = is
 not_of_disk_by (start.BadControl fault) other is = is
+not_of_disk_by start.BadPhysical other is = is
 not_of_disk_by start.BadGeometry other is = is
 not_of_disk_by (start.BadTable slot) other is = is
 not_of_disk_by (start.BadPartition name) other is = is
@@ -112,6 +115,7 @@ pub contents_no_disk : (f : StartFault) → IsOfContents f → IsOfDisk f → �
 contents_no_disk (start.TooSmall need have) contents is = is
 contents_no_disk (start.BadMark sector) contents is = is
 contents_no_disk (start.BadControl fault) contents is = is
+contents_no_disk start.BadPhysical contents is = is
 contents_no_disk start.BadGeometry contents is = is
 contents_no_disk (start.BadTable slot) contents is = is
 contents_no_disk (start.BadPartition name) contents is = is

@@ -26,6 +26,7 @@ abbrev pub is_silent_start : StartFault → Bool
 is_silent_start (start.TooSmall need have) = false
 is_silent_start (start.BadMark sector) = false
 is_silent_start (start.BadControl fault) = false
+is_silent_start start.BadPhysical = false
 is_silent_start start.BadGeometry = false
 is_silent_start (start.BadTable slot) = false
 is_silent_start (start.BadPartition name) = false
@@ -42,6 +43,7 @@ abbrev pub start_line : StartFault → List ℕ
 start_line (start.TooSmall need have) = none_line
 start_line (start.BadMark sector) = none_line
 start_line (start.BadControl fault) = none_line
+start_line start.BadPhysical = none_line
 start_line start.BadGeometry = none_line
 start_line (start.BadTable slot) = none_line
 start_line (start.BadPartition name) = none_line

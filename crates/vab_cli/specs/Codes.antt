@@ -50,6 +50,7 @@ abbrev pub start_status : StartFault → Status
 start_status (start.TooSmall need have) = NotADevice
 start_status (start.BadMark sector) = NotADevice
 start_status (start.BadControl fault) = NotADevice
+start_status start.BadPhysical = NotADevice
 start_status start.BadGeometry = NotADevice
 start_status (start.BadTable slot) = NotADevice
 start_status (start.BadPartition name) = NotADevice

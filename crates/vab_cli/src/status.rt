@@ -95,6 +95,7 @@ impl From<StartFault> for Status {
             StartFault::TooSmall(_, _)
             | StartFault::BadMark(_)
             | StartFault::BadControl(_)
+            | StartFault::BadPhysical
             | StartFault::BadGeometry
             | StartFault::BadTable(_)
             | StartFault::BadPartition(_)

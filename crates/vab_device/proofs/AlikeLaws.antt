@@ -13,6 +13,7 @@ use Rattle.vab_geometry.specs.declared.geometry.Geometry.{Geometry}
 use Rattle.vab_geometry.specs.Geometry.{IsGeometry}
 use Rattle.vab_tables.specs.declared.entries.Group.{Group}
 use Rattle.vab_tables.specs.declared.table.Table.{Table}
+use Rattle.vab_physical.specs.declared.tail.Tail.{Tail}
 use Rattle.vab_tables.specs.Rules.{cap_of}
 use Rattle.vab_lpstore.specs.Layout.{copy_sectors, primary_of, backup_of}
 use Rattle.vab_lpstore.specs.Loading.{slot_table}
@@ -39,7 +40,8 @@ use Rattle.vab_device.proofs.PlaceLaws.{table_is}
 use Rattle.vab_device.proofs.ReadingLaws.{device_of, single_works}
 use Rattle.vab_device.proofs.RepairLaws.{end_of, ends_within}
 use Rattle.vab_device.proofs.MostLaws.{parts_under}
-use Rattle.vab_device.proofs.SameLaws.{mark_same, geometry_same, images_same, version_same}
+use Rattle.vab_device.proofs.SameLaws.{mark_same, tail_kept, geometry_same, images_same}
+use Rattle.vab_device.proofs.SameLaws.{version_same}
 use Rattle.vab_device.proofs.StandsLaws.{StandsIdle, read_at}
 
 -- ---- the tables
@@ -86,53 +88,54 @@ module _ (slot : ℕ) (t u : Table) (is : plain slot (layout_of u) ≡ plain slo
 -- ---- the disk
 
 -- the images and the places are the same
-mounted_alike : (m : UpdateMark) (slot : ℕ) (seen : Control) (g : Geometry) (t u : Table)
+mounted_alike : (m : UpdateMark) (slot : ℕ) (seen : Control) (tail : Tail) (g : Geometry)
+    (t u : Table)
     (old image : Image)
     → slot < 2
     → plain slot (layout_of u) ≡ plain slot (layout_of t)
-    → images_on image (kept (read_at (resloted slot m) seen g t)).a
-    ≡ images_on old (kept (read_at (resloted slot m) seen g t)).a
-    → images_on image (kept (read_at (resloted slot m) seen g t)).b
-    ≡ images_on old (kept (read_at (resloted slot m) seen g t)).b
-    → mounted_on (kept (read_at (resloted slot m) seen g u)) image
-    ≡ mounted_on (kept (read_at (resloted slot m) seen g t)) old
+    → images_on image (kept (read_at (resloted slot m) seen tail g t)).a
+    ≡ images_on old (kept (read_at (resloted slot m) seen tail g t)).a
+    → images_on image (kept (read_at (resloted slot m) seen tail g t)).b
+    ≡ images_on old (kept (read_at (resloted slot m) seen tail g t)).b
+    → mounted_on (kept (read_at (resloted slot m) seen tail g u)) image
+    ≡ mounted_on (kept (read_at (resloted slot m) seen tail g t)) old
 unfolding state_on
-mounted_alike m zero seen g t u old image below is a b =
+mounted_alike m zero seen tail g t u old image below is a b =
     let blocks : images_on image (Some (parts_of 0 (layout_of u)))
     ≡ images_on old (Some (parts_of 0 (layout_of t))) =
     ap (λ ps. images_on image (Some ps)) (parts_are 0 t u is) ∙ a in
-    (λ i. record (mounted_on (kept (read_at (resloted 0 m) seen g u)) image) {
-      state = record (state_on (kept (read_at (resloted 0 m) seen g u)) image) {
+    (λ i. record (mounted_on (kept (read_at (resloted 0 m) seen tail g u)) image) {
+      state = record (state_on (kept (read_at (resloted 0 m) seen tail g u)) image) {
         cap = cap_is 0 t u is i;
         groups = limits_are 0 t u is i;
         a = blocks i;
       };
-      places = record (mounted_on (kept (read_at (resloted 0 m) seen g u)) image).places {
+      places = record (mounted_on (kept (read_at (resloted 0 m) seen tail g u)) image).places {
         a = Some (is i);
       };
     })
-mounted_alike m (suc zero) seen g t u old image below is a b =
+mounted_alike m (suc zero) seen tail g t u old image below is a b =
     let blocks : images_on image (Some (parts_of 1 (layout_of u)))
     ≡ images_on old (Some (parts_of 1 (layout_of t))) =
     ap (λ ps. images_on image (Some ps)) (parts_are 1 t u is) ∙ b in
-    (λ i. record (mounted_on (kept (read_at (resloted 1 m) seen g u)) image) {
-      state = record (state_on (kept (read_at (resloted 1 m) seen g u)) image) {
+    (λ i. record (mounted_on (kept (read_at (resloted 1 m) seen tail g u)) image) {
+      state = record (state_on (kept (read_at (resloted 1 m) seen tail g u)) image) {
         cap = cap_is 1 t u is i;
         groups = limits_are 1 t u is i;
         b = blocks i;
       };
-      places = record (mounted_on (kept (read_at (resloted 1 m) seen g u)) image).places {
+      places = record (mounted_on (kept (read_at (resloted 1 m) seen tail g u)) image).places {
         b = Some (is i);
       };
     })
-mounted_alike m (suc (suc n)) seen g t u old image below is a b = absurd (omega (arith, below))
+mounted_alike m (suc (suc n)) seen tail g t u old image below is a b = absurd (omega (arith, below))
 
 module _
     (d : Device) (size n : ℕ) (old image : Image) (t u : Table)
     (st : StandsIdle d size old t)
     (below : d.mark.slot < 2)
     (geometry : IsGeometry d.geometry)
-    (lies : lies_in size d.geometry (layout_of t).device ≡ true)
+    (lies : lies_in d.tail.super_end d.geometry (layout_of t).device ≡ true)
     (is : plain d.mark.slot (layout_of u) ≡ plain d.mark.slot (layout_of t))
     (fits : n ≤ copy_sectors d.geometry)
     (others : SameElsewhere d.geometry d.mark.slot n old image) where
@@ -143,7 +146,7 @@ module _
   g = d.geometry
 
   abbrev r : Read
-  r = read_at d.mark d.control d.geometry t
+  r = read_at d.mark d.control d.tail d.geometry t
 
   before : (s : ℕ) → s < 4120 → image s ≡ old s
   unfolding primary_of backup_of
@@ -169,27 +172,30 @@ module _
       (parts_under r old image version_alike st.reads.parts)).0
 
   module _ (there : slot_table d.geometry d.mark.slot image ≡ Ok u) where
-    table : table_at size g k image ≡ Ok u
+    table : table_at d.tail.super_end g k image ≡ Ok u
     table =
-        table_is size g k image u there
-        (ap (lies_in size g) (device_is k t u is) ∙ lies)
+        table_is d.tail.super_end g k image u there
+        (ap (lies_in d.tail.super_end g) (device_is k t u is) ∙ lies)
 
-    pub reads_alike : Reads size (read_at d.mark d.control d.geometry u) image
+    pub reads_alike : Reads size (read_at d.mark d.control d.tail d.geometry u) image
     reads_alike =
         reads_idle size image (rephased marks.Idle d.mark) st.reads.enough
         (mark_same old image (before 2048 (omega arith)) ∙ st.reads.mark)
-        refl d.control g u refl
+        refl d.control d.tail g u refl
         (control_seen_in _ _ image d.control control_alike)
-        (geometry_same size old image (before 4104 (omega arith)) (before 4112 (omega arith))
+        (tail_kept d.mark.physical size old image (λ some. before 2113 (omega arith))
+        ∙ st.reads.tail)
+        (geometry_same d.tail.super_end old image (before 4104 (omega arith))
+        (before 4112 (omega arith))
         ∙ st.reads.geometry)
         table rules (single_works r refl st.reads.state)
 
     pub means_alike : device size image ≡ device size old
     means_alike =
         let within = ends_within g k geometry below in
-        device_of size (read_at d.mark d.control g u) image reads_alike
+        device_of size (read_at d.mark d.control d.tail g u) image reads_alike
         ∙ ap Ok
-        (mounted_alike d.mark k d.control g t u old image below is
+        (mounted_alike d.mark k d.control d.tail g t u old image below is
         (images_same old image (kept r).a
         (λ s of. behind s (images_behind size (end_of g k) 0 _ _ r old s st.reads within of)))
         (images_same old image (kept r).b

@@ -388,7 +388,7 @@ read_begins : (size low : ℕ) (r : Read) (image : Image)
     → 512 * (low - 4096) ≤ copies_end r.geometry
     → BeginBehind low r.tables
 read_begins size low r image reads le =
-    tables_behind size low r.geometry (phase_at r.mark).tables image r.tables le
+    tables_behind r.tail.super_end low r.geometry (phase_at r.mark).tables image r.tables le
     reads.tables
 
 -- a sector of an image stands behind the copies

@@ -21,8 +21,8 @@ use Rattle.vab_device.specs.Reading.{state_fault, stores_of, Reads, AgreeCopies}
 use Rattle.vab_device.specs.Reading.{Represents, IsOfTables, IsOfImages, IsOfPlan}
 use Rattle.vab_device.specs.Mounted.{entries_on}
 use Rattle.vab_device.proofs.MostLaws.{parts_under}
-use Rattle.vab_device.proofs.SameLaws.{mark_same, geometry_same, tables_agree, images_same}
-use Rattle.vab_device.proofs.SameLaws.{version_same}
+use Rattle.vab_device.proofs.SameLaws.{mark_same, tail_kept, geometry_same, tables_agree}
+use Rattle.vab_device.proofs.SameLaws.{images_same, version_same}
 use Rattle.vab_device.proofs.StoreLaws.{statuses_kept, stores_kept, plan_kept, overlay_kept}
 use Rattle.vab_device.proofs.Behind.{images_behind, stores_behind, plan_behind, overlay_behind}
 
@@ -125,13 +125,17 @@ module _
         (λ read s there. elsewhere s (λ e. omega (arith, e, there.from)))
         ∙ is.reads.statuses;
     control = control_there _ _;
+    tail =
+        tail_kept is.read.mark.physical size old gated
+        (λ some. elsewhere 2113 (λ e. omega (arith, e)))
+        ∙ is.reads.tail;
     geometry =
-        geometry_same size old gated
+        geometry_same is.read.tail.super_end old gated
         (elsewhere 4104 (λ e. omega (arith, e)))
         (elsewhere 4112 (λ e. omega (arith, e)))
         ∙ is.reads.geometry;
     tables =
-        tables_agree size is.read.geometry (phase_at is.read.mark).tables
+        tables_agree is.read.tail.super_end is.read.geometry (phase_at is.read.mark).tables
         old gated
         of_tables
         ∙ is.reads.tables;

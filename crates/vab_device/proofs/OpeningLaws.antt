@@ -13,7 +13,9 @@ use Rattle.vab_device.specs.declared.fault.StartFault.TheVariants.{TooSmall}
 use Rattle.vab_device.specs.Checks.{Check, first_fault}
 use Rattle.vab_device.specs.Phases.{phase_at}
 use Rattle.vab_device.specs.Reading.{Read, mark_in, statuses_at, control_read, control_in}
-use Rattle.vab_device.specs.Reading.{geometry_at, tables_in, frame, part_fault, state_fault, judged}
+use Rattle.vab_physical.specs.declared.tail.Tail.{Tail}
+use Rattle.vab_device.specs.Reading.{tail_at, geometry_at, tables_in, frame, part_fault, judged}
+use Rattle.vab_device.specs.Reading.{state_fault}
 use Rattle.vab_device.specs.Reading.{stores_of, scanned_in, stated, device, Reads, most_at}
 use Rattle.vab_device.specs.Stores.{Scanned, scans_in}
 use Rattle.vab_device.proofs.ReadingLaws.{FrameReads, frame_is}
@@ -52,30 +54,44 @@ unfolding device frame
 device_no_control size image m ss f enough mark statuses control =
     rw (enough, mark, statuses, control) refl
 
-pub device_no_geometry : (size : ℕ) (image : Image) (m : UpdateMark)
+pub device_no_tail : (size : ℕ) (image : Image) (m : UpdateMark)
     (ss : List (Option PartStatus)) (c : Control) (f : StartFault)
     → leb 4120 size ≡ true
     → mark_in image ≡ Ok m
     → statuses_at (phase_at m).reads_statuses image ≡ Ok ss
     → control_in (phase_at m).has_a (phase_at m).has_b image ≡ Ok c
-    → geometry_at size image ≡ Err f
+    → tail_at m.physical size image ≡ Err f
     → device size image ≡ Err f
 unfolding device frame
-device_no_geometry size image m ss c f enough mark statuses control geometry =
-    rw (enough, mark, statuses, control, geometry) refl
+device_no_tail size image m ss c f enough mark statuses control tail =
+    rw (enough, mark, statuses, control, tail) refl
 
-pub device_no_tables : (size : ℕ) (image : Image) (m : UpdateMark)
-    (ss : List (Option PartStatus)) (c : Control) (g : Geometry) (f : StartFault)
+pub device_no_geometry : (size : ℕ) (image : Image) (m : UpdateMark)
+    (ss : List (Option PartStatus)) (c : Control) (tail : Tail) (f : StartFault)
     → leb 4120 size ≡ true
     → mark_in image ≡ Ok m
     → statuses_at (phase_at m).reads_statuses image ≡ Ok ss
     → control_in (phase_at m).has_a (phase_at m).has_b image ≡ Ok c
-    → geometry_at size image ≡ Ok g
-    → tables_in size g (phase_at m).tables image ≡ Err f
+    → tail_at m.physical size image ≡ Ok tail
+    → geometry_at tail.super_end image ≡ Err f
     → device size image ≡ Err f
 unfolding device frame
-device_no_tables size image m ss c g f enough mark statuses control geometry tables =
-    rw (enough, mark, statuses, control, geometry, tables) refl
+device_no_geometry size image m ss c tail f enough mark statuses control ends geometry =
+    rw (enough, mark, statuses, control, ends, geometry) refl
+
+pub device_no_tables : (size : ℕ) (image : Image) (m : UpdateMark)
+    (ss : List (Option PartStatus)) (c : Control) (tail : Tail) (g : Geometry) (f : StartFault)
+    → leb 4120 size ≡ true
+    → mark_in image ≡ Ok m
+    → statuses_at (phase_at m).reads_statuses image ≡ Ok ss
+    → control_in (phase_at m).has_a (phase_at m).has_b image ≡ Ok c
+    → tail_at m.physical size image ≡ Ok tail
+    → geometry_at tail.super_end image ≡ Ok g
+    → tables_in tail.super_end g (phase_at m).tables image ≡ Err f
+    → device size image ≡ Err f
+unfolding device frame
+device_no_tables size image m ss c tail g f enough mark statuses control ends geometry tables =
+    rw (enough, mark, statuses, control, ends, geometry, tables) refl
 
 -- ---- a rule is broken, or a store isn't read
 
@@ -117,6 +133,7 @@ reads_of size r image ss reads parts stores state = record {
   mark = reads.mark;
   statuses = reads.statuses;
   control = reads.control;
+  tail = reads.tail;
   geometry = reads.geometry;
   tables = reads.tables;
   parts = parts;

@@ -2,13 +2,14 @@
 use Rattle.std.proofs.Common.{◌≡◌, ◌∙◌, ◌⊎◌, inl, inr, ⊎_elim, ℕ, zero, suc, ◌+◌, ◌<◌, true, false}
 use Rattle.std.proofs.Common.{List, IsTrue}
 use Rattle.std.proofs.Common.{[], ◌∷◌, length, Result, Ok, Err, refl, sym, ap, subst, arith}
-use Rattle.std.specs.Prelude.{◌||◌, not, Bool, Some, None, is_some, nat_le, ◌==◌}
+use Rattle.std.specs.Prelude.{◌||◌, not, Bool, Option, Some, None, is_some, nat_le, ◌==◌}
 use Rattle.std.proofs.lemmas.Bool.{cases_Bool}
 use Rattle.vab_disk.specs.Disk.{Image}
 use Rattle.vab_bootctl.specs.declared.slots.Control.{Control}
 use Rattle.vab_bootctl.specs.Control.{control_of}
 use Rattle.vab_bootctl.specs.Boot.{info_at}
 use Rattle.vab_marks.specs.declared.mark.UpdateMark.{UpdateMark}
+use Rattle.vab_marks.specs.declared.status.PartStatus.{PartStatus}
 use Rattle.vab_marks.specs.declared.mark.MarkPhase.{MarkPhase}
 use Rattle.vab_marks.specs.declared.mark.MarkPhase.TheVariants as marks
 use Rattle.vab_tables.specs.declared.table.Table.{Table}
@@ -16,6 +17,7 @@ use Rattle.vab_geometry.specs.declared.geometry.Geometry.{Geometry}
 use Rattle.vab_layout.specs.Slots.{other_slot}
 use Rattle.vab_model.specs.State.{control_seen}
 use Rattle.vab_model.proofs.SeenLaws.{seen_again}
+use Rattle.vab_physical.specs.declared.tail.Tail.{Tail}
 use Rattle.vab_device.specs.declared.fault.StartFault.{StartFault}
 use Rattle.vab_device.specs.declared.fault.StartFault.TheVariants.{TooSmall, BadMark, BadState}
 use Rattle.vab_marks.specs.declared.sector.MarkFault.{MarkFault}
@@ -31,7 +33,7 @@ use Rattle.vab_device.specs.Phases.{Phase, slot_checks, staged_checks, idle, ins
 use Rattle.vab_device.specs.Phases.{phase_in, phase_at, is_good, slot_ready}
 use Rattle.vab_device.specs.Reading.{Read, settled, mark_read, mark_in, statuses_at, control_read}
 use Rattle.vab_device.specs.Reading.{control_in}
-use Rattle.vab_device.specs.Reading.{geometry_at, stores_of, scanned_in, most_at}
+use Rattle.vab_device.specs.Reading.{tail_at, geometry_at, stores_of, scanned_in, most_at}
 use Rattle.vab_device.specs.Reading.{table_at, tables_in, framed, frame, part_fault, state_fault}
 use Rattle.vab_device.specs.Reading.{judged, stated, table_for, parts_for, kept, device}
 use Rattle.vab_device.specs.Reading.{Reads, Represents, SameRead, control_kept}
@@ -57,8 +59,9 @@ pub record FrameReads (size : ℕ) (image : Image) (r : Read) : Type 0 where
       (phase_at r.mark).has_b
       image
       ≡ Ok r.control
-  pub geometry : geometry_at size image ≡ Ok r.geometry
-  pub tables : tables_in size r.geometry (phase_at r.mark).tables image
+  pub tail : tail_at r.mark.physical size image ≡ Ok r.tail
+  pub geometry : geometry_at r.tail.super_end image ≡ Ok r.geometry
+  pub tables : tables_in r.tail.super_end r.geometry (phase_at r.mark).tables image
       ≡ Ok r.tables
 
 pub frame_is : (size : ℕ) (r : Read) (image : Image)
@@ -66,7 +69,15 @@ pub frame_is : (size : ℕ) (r : Read) (image : Image)
     → frame size image ≡ Ok (unscanned r)
 unfolding frame
 frame_is size r image reads =
-    rw (reads.enough, reads.mark, reads.statuses, reads.control, reads.geometry, reads.tables) refl
+    rw (
+      reads.enough,
+      reads.mark,
+      reads.statuses,
+      reads.control,
+      reads.tail,
+      reads.geometry,
+      reads.tables,
+    ) refl
 
 frame_of : (size : ℕ) (r : Read) (image : Image)
     → Reads size r image
@@ -76,6 +87,7 @@ frame_of size r image reads = frame_is size r image (record {
   mark = reads.mark;
   statuses = reads.statuses;
   control = reads.control;
+  tail = reads.tail;
   geometry = reads.geometry;
   tables = reads.tables;
 })
@@ -95,6 +107,24 @@ device_of size r image reads =
 
 -- ---- and where it means so it is read
 
+-- what is read of the frame
+abbrev framed_so : UpdateMark
+    → List (Option PartStatus)
+    → Control
+    → Tail
+    → Geometry
+    → List Table
+    → Read
+framed_so m ss c tail g ts = record {
+  mark = m;
+  statuses = ss;
+  control = c;
+  tail = tail;
+  geometry = g;
+  tables = ts;
+  scanned = [];
+}
+
 framed_was : (size : ℕ) (m : UpdateMark) (image : Image) (r : Read)
     → nat_le 4120 size ≡ true
     → mark_in image ≡ Ok m
@@ -104,47 +134,30 @@ framed_was size m image r enough mark is =
     let p : Phase = phase_at m in
     let ss = bound (statuses_at p.reads_statuses image)
     (λ ss. control_in p.has_a p.has_b image >>= λ c.
-    geometry_at size image >>= λ g.
-    tables_in size g p.tables image >>= λ ts.
-    Ok (record { mark = m; statuses = ss; control = c; geometry = g; tables = ts; scanned = [] }))
+    tail_at m.physical size image >>= λ tail.
+    geometry_at tail.super_end image >>= λ g.
+    tables_in tail.super_end g p.tables image >>= λ ts.
+    Ok (framed_so m ss c tail g ts))
     r is in
     let c = bound (control_in p.has_a p.has_b image)
-    (λ c. geometry_at size image >>= λ g.
-    tables_in size g p.tables image >>= λ ts.
-    Ok (record { mark = m; statuses = ss.0; control = c; geometry = g; tables = ts; scanned = [] }))
+    (λ c. tail_at m.physical size image >>= λ tail.
+    geometry_at tail.super_end image >>= λ g.
+    tables_in tail.super_end g p.tables image >>= λ ts.
+    Ok (framed_so m ss.0 c tail g ts))
     r ss.2 in
-    let g = bound (geometry_at size image)
-    (λ g. tables_in size g p.tables image >>= λ ts.
-    Ok (record {
-      mark = m;
-      statuses = ss.0;
-      control = c.0;
-      geometry = g;
-      tables = ts;
-      scanned =
-          [];
-    }))
+    let tail = bound (tail_at m.physical size image)
+    (λ tail. geometry_at tail.super_end image >>= λ g.
+    tables_in tail.super_end g p.tables image >>= λ ts.
+    Ok (framed_so m ss.0 c.0 tail g ts))
     r c.2 in
-    let ts = bound (tables_in size g.0 p.tables image)
-    (λ ts.
-    Ok (record {
-      mark = m;
-      statuses = ss.0;
-      control = c.0;
-      geometry = g.0;
-      tables = ts;
-      scanned =
-          [];
-    }))
+    let g = bound (geometry_at tail.0.super_end image)
+    (λ g. tables_in tail.0.super_end g p.tables image >>= λ ts.
+    Ok (framed_so m ss.0 c.0 tail.0 g ts))
+    r tail.2 in
+    let ts = bound (tables_in tail.0.super_end g.0 p.tables image)
+    (λ ts. Ok (framed_so m ss.0 c.0 tail.0 g.0 ts))
     r g.2 in
-    let read : Read = record {
-      mark = m;
-      statuses = ss.0;
-      control = c.0;
-      geometry = g.0;
-      tables = ts.0;
-      scanned = [];
-    } in
+    let read : Read = framed_so m ss.0 c.0 tail.0 g.0 ts.0 in
     let whole : Ok read ≡ Ok r = ts.2 in
     let same : read ≡ r = cc in
     subst (FrameReads size image) same
@@ -153,6 +166,7 @@ framed_was size m image r enough mark is =
       mark = mark;
       statuses = ss.1;
       control = c.1;
+      tail = tail.1;
       geometry = g.1;
       tables = ts.1;
     })
@@ -210,6 +224,7 @@ read_was size image first r was parts scanned state =
       mark = was.mark;
       statuses = was.statuses;
       control = was.control;
+      tail = was.tail;
       geometry = was.geometry;
       tables = was.tables;
       parts = parts;
@@ -255,6 +270,7 @@ reads_kept size r old new reads same = record {
   mark = same.mark ∙ reads.mark;
   statuses = same.statuses ∙ reads.statuses;
   control = same.control ∙ reads.control;
+  tail = same.tail ∙ reads.tail;
   geometry = same.geometry ∙ reads.geometry;
   tables = same.tables ∙ reads.tables;
   parts = parts_more r (most_at old) (most_at new) same.most reads.parts;
@@ -510,7 +526,7 @@ idle_read_of size r image reads none =
     by_phase : (p : MarkPhase)
         → (p ≡ marks.Installing) ⊎ (p ≡ marks.Staged) ⊎ (p ≡ marks.Merging)
         → (ts : List Table)
-        → tables_in size r.geometry (phase_in p r.mark).tables image ≡ Ok ts
+        → tables_in r.tail.super_end r.geometry (phase_in p r.mark).tables image ≡ Ok ts
         → phase_by (record r.mark { phase = p }) left
         (entries_on image ((phase_in p r.mark).plan ts r.scanned))
         ≡ phases.Idle
@@ -519,7 +535,8 @@ idle_read_of size r image reads none =
     by_phase marks.Idle (inr (inl e)) ts read is = cc
     by_phase marks.Idle (inr (inr e)) ts read is = cc
     by_phase marks.Installing e ts read is =
-        let two = tables_two size r.geometry r.mark.slot (other_slot r.mark.slot) image ts read in
+        let two =
+        tables_two r.tail.super_end r.geometry r.mark.slot (other_slot r.mark.slot) image ts read in
         let there : phase_by (record r.mark { phase = marks.Installing }) left
         (entries_on image ((installing r.mark).plan (two.0 ∷ two.1 ∷ []) r.scanned))
         ≡ phases.Idle =
@@ -555,8 +572,8 @@ pub source_table : (size : ℕ) (r : Read) (image : Image)
     → (t : Table) × (rest : List Table) × (r.tables ≡ t ∷ rest)
 source_table size r image reads =
     let of = of_phase r.mark.phase r.mark in
-    tables_first size r.geometry r.mark.slot of.others image r.tables
-    (subst (λ (slots : List ℕ). tables_in size r.geometry slots image ≡ Ok r.tables)
+    tables_first r.tail.super_end r.geometry r.mark.slot of.others image r.tables
+    (subst (λ (slots : List ℕ). tables_in r.tail.super_end r.geometry slots image ≡ Ok r.tables)
     of.tables reads.tables)
 
 tables_one : (size : ℕ) (g : Geometry) (slot : ℕ) (image : Image) (ts : List Table)
@@ -574,8 +591,8 @@ pub one_table : (size : ℕ) (r : Read) (image : Image)
     → Reads size r image
     → (t : Table) × (r.tables ≡ t ∷ [])
 one_table size r image is reads =
-    tables_one size r.geometry r.mark.slot image r.tables
-    (subst (λ (p : Phase). tables_in size r.geometry p.tables image ≡ Ok r.tables)
+    tables_one r.tail.super_end r.geometry r.mark.slot image r.tables
+    (subst (λ (p : Phase). tables_in r.tail.super_end r.geometry p.tables image ≡ Ok r.tables)
     (idle_at r.mark is) reads.tables)
 
 tables_long : (size : ℕ) (g : Geometry) (slots : List ℕ) (image : Image) (ts : List Table)
@@ -665,7 +682,7 @@ pub has_images : (size : ℕ) (r : Read) (image : Image) → Reads size r image 
 has_images size r image reads =
     let both = are_there r.mark.phase r.mark r.tables r.scanned
     (slot_below image r.mark reads.mark)
-    (tables_long size r.geometry (phase_at r.mark).tables image r.tables
+    (tables_long r.tail.super_end r.geometry (phase_at r.mark).tables image r.tables
     reads.tables) in
     record { a = both.0; b = both.1 }
 

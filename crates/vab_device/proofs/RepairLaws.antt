@@ -21,8 +21,8 @@ use Rattle.vab_device.specs.Checks.{◌>>=◌}
 use Rattle.vab_device.specs.Kept.{copies_end}
 use Rattle.vab_device.specs.Phases.{phase_in, phase_at}
 use Rattle.vab_device.specs.Reading.{Read, tables_in, stores_of, kept, Reads, SameRead}
-use Rattle.vab_device.proofs.SameLaws.{mark_same, control_same, geometry_same, table_same}
-use Rattle.vab_device.proofs.SameLaws.{images_same, version_same, most_same}
+use Rattle.vab_device.proofs.SameLaws.{mark_same, control_same, tail_kept, geometry_same}
+use Rattle.vab_device.proofs.SameLaws.{table_same, images_same, version_same, most_same}
 use Rattle.vab_device.proofs.StoreLaws.{statuses_kept, stores_kept, plan_kept, overlay_kept}
 use Rattle.vab_device.proofs.Behind.{images_behind, stores_behind, plan_behind, overlay_behind}
 
@@ -115,23 +115,23 @@ slots_read marks.Staged m below = (below, (omega arith, tt))
 slots_read marks.Merging m below = (below, tt)
 slots_read marks.Completed m below = (below, tt)
 
-each_same : (size k n : ℕ) (g : Geometry) (slots : List ℕ) (old new : Image)
+each_same : (super_end k n : ℕ) (g : Geometry) (slots : List ℕ) (old new : Image)
     → 2 ≤ g.slots
     → k < 2
     → AreSlots slots
     → n ≤ copy_sectors g
     → SameElsewhere g k n old new
     → slot_table g k new ≡ slot_table g k old
-    → tables_in size g slots new ≡ tables_in size g slots old
-each_same size k n g [] old new two below are fits others table = refl
-each_same size k n g (j ∷ js) old new two below are fits others table =
+    → tables_in super_end g slots new ≡ tables_in super_end g slots old
+each_same super_end k n g [] old new two below are fits others table = refl
+each_same super_end k n g (j ∷ js) old new two below are fits others table =
     let here : slot_table g j new ≡ slot_table g j old = elim (cases_eq j k) [
       | inl same ↦
           subst (λ (x : ℕ). slot_table g x new ≡ slot_table g x old) (sym same) table
       | inr other ↦ other_table g j k n old new two are.0 below other fits others
     ] in
-    let first = table_same size g j old new here in
-    let rest = each_same size k n g js old new two below are.1 fits others table in
+    let first = table_same super_end g j old new here in
+    let rest = each_same super_end k n g js old new two below are.1 fits others table in
     (λ i. first i >>= λ t. rest i >>= λ ts. Ok (t ∷ ts))
 
 pub repair_same : (size n k : ℕ) (r : Read) (old new : Image)
@@ -160,8 +160,10 @@ repair_same size n k r old new geometry slot k_below fits reads others table =
           (version_same old new (before 2048 (omega arith)))
           (λ read s is. before s (omega (arith, is.below)));
       control = control_same _ _ old new (before 4 (omega arith));
-      geometry = geometry_same size old new (before 4104 (omega arith)) (before 4112 (omega arith));
-      tables = each_same size k n g (phase_at r.mark).tables old new
+      tail = tail_kept r.mark.physical size old new (λ some. before 2113 (omega arith));
+      geometry = geometry_same r.tail.super_end old new (before 4104 (omega arith))
+          (before 4112 (omega arith));
+      tables = each_same r.tail.super_end k n g (phase_at r.mark).tables old new
           geometry.two k_below (slots_read r.mark.phase r.mark slot) fits others table;
       stores = stores_kept (stores_of r) old new r.scanned
           (λ s is. behind s (stores_behind size (end_of g k) r old s reads within is))

@@ -4,12 +4,13 @@
 use Rattle.std.proofs.Common.{◌≡◌, ◌∙◌, inl, inr, ⊎_elim, ℕ, ◌+◌, ◌≤◌}
 use Rattle.std.proofs.Common.{List, [], ◌∷◌, Ok, refl, ap}
 use Rattle.std.proofs.Common.{arith}
-use Rattle.std.specs.Prelude.{Bool, Option, Some, None, map}
+use Rattle.std.specs.Prelude.{Bool, true, false, Option, Some, None, map}
 use Rattle.vab_disk.specs.Disk.{Image}
 use Rattle.vab_disk.specs.Calls.{InSectors}
 use Rattle.vab_gate.proofs.Blocks.{sectors_same}
 use Rattle.vab_bootctl.specs.Control.{control_of}
 use Rattle.vab_marks.specs.Mark.{mark_of}
+use Rattle.vab_marks.specs.Physical.{physical_of}
 use Rattle.vab_geometry.specs.declared.geometry.Geometry.{Geometry}
 use Rattle.vab_geometry.specs.Reading.{geometry_of}
 use Rattle.vab_geometry.specs.Loading.{geometry_in, first_of}
@@ -18,6 +19,7 @@ use Rattle.vab_lpstore.specs.Layout.{backup_bytes}
 use Rattle.vab_lpstore.specs.Loading.{slot_table}
 use Rattle.vab_lpstore.specs.Loading as loading
 use Rattle.vab_tables.specs.Reading.{table_of}
+use Rattle.vab_physical.specs.Tail.{tail_read}
 use Rattle.vab_device.specs.declared.device.Part.{Part}
 use Rattle.vab_device.specs.Checks.{◌>>=◌}
 use Rattle.vab_device.specs.Mounted.{bytes_at, sectors_read, image_on, images_on}
@@ -26,7 +28,7 @@ use Rattle.vab_device.specs.Reading.{Read, mark_read, mark_in, version_at, most_
 use Rattle.vab_device.specs.Reading.{control_in}
 use Rattle.vab_marks.specs.Version.{version_in, partitions_under}
 use Rattle.vab_device.specs.Reading.{geometry_read, geometry_at, table_read, table_at, tables_in}
-use Rattle.vab_device.specs.Reading.{kept, Reads, SameRead, Dead}
+use Rattle.vab_device.specs.Reading.{kept, Reads, SameRead, Dead, tail_there, tail_at}
 use Rattle.vab_device.specs.Reading.{stores_of, IsOfTables, IsOfParts, IsOfImages}
 use Rattle.vab_device.specs.Reading.{Live, Agrees, Misses}
 use Rattle.vab_device.proofs.BlockLaws.{bytes_same}
@@ -52,14 +54,23 @@ pub control_same : (a b : Bool) (old new : Image)
 unfolding control_in
 control_same a b old new same = ap (λ x. control_read a b (control_of x)) same
 
-pub geometry_same : (size : ℕ) (old new : Image)
+-- where the mark says that there are none, sector 2113 isn't read
+pub tail_kept : (physical : Bool) (size : ℕ) (old new : Image)
+    → (physical ≡ true → new 2113 ≡ old 2113)
+    → tail_at physical size new ≡ tail_at physical size old
+unfolding tail_at
+tail_kept false size old new same = refl
+tail_kept true size old new same =
+    ap (λ b. tail_there (tail_read size (physical_of b))) (same refl)
+
+pub geometry_same : (super_end : ℕ) (old new : Image)
     → new 4104 ≡ old 4104
     → new 4112 ≡ old 4112
-    → geometry_at size new ≡ geometry_at size old
+    → geometry_at super_end new ≡ geometry_at super_end old
 unfolding geometry_at geometry_in
-geometry_same size old new first second =
-    ap (λ b. geometry_read size (first_of (geometry_of b) (geometry_of (new 4112)))) first
-    ∙ ap (λ b. geometry_read size (first_of (geometry_of (old 4104)) (geometry_of b))) second
+geometry_same super_end old new first second =
+    ap (λ b. geometry_read super_end (first_of (geometry_of b) (geometry_of (new 4112)))) first
+    ∙ ap (λ b. geometry_read super_end (first_of (geometry_of (old 4104)) (geometry_of b))) second
 
 slot_table_same : (g : Geometry) (slot : ℕ) (old new : Image)
     → primary_bytes g slot new ≡ primary_bytes g slot old
@@ -130,10 +141,12 @@ agrees_same size r old new reads agrees = record {
       (version_same old new (agrees 2048 (Live.of_mark refl)))
       (λ read s is. agrees s (Live.of_statuses read is));
   control = control_same _ _ old new (agrees 4 (Live.of_control refl));
-  geometry = geometry_same size old new
+  tail = tail_kept r.mark.physical size old new
+      (λ some. agrees 2113 (Live.of_sizes some refl));
+  geometry = geometry_same r.tail.super_end old new
       (agrees 4104 (Live.of_geometry (inl refl)))
       (agrees 4112 (Live.of_geometry (inr refl)));
-  tables = tables_agree size r.geometry (phase_at r.mark).tables old new
+  tables = tables_agree r.tail.super_end r.geometry (phase_at r.mark).tables old new
       (λ s is. agrees s (Live.of_tables is));
   stores = stores_kept (stores_of r) old new r.scanned (λ s is. agrees s (Live.of_stores is))
       reads.stores;

@@ -23,17 +23,18 @@ pub kept_table_at : (d : Device) (size slot : ℕ) (t : Table)
     → IsDevice d size
     → slot < 2
     → table_of_slot d slot ≡ Some t
-    → IsTableOf size d.geometry slot t
-kept_table_at d size zero t kept below is = subst (IsKeptTable size d.geometry 0) is kept.table_a
+    → IsTableOf d.tail.super_end d.geometry slot t
+kept_table_at d size zero t kept below is =
+    subst (IsKeptTable d.tail.super_end d.geometry 0) is kept.table_a
 kept_table_at d size (suc zero) t kept below is =
-    subst (IsKeptTable size d.geometry 1) is kept.table_b
+    subst (IsKeptTable d.tail.super_end d.geometry 1) is kept.table_b
 kept_table_at d size (suc (suc n)) t kept below is = absurd (omega (arith, below))
 
 -- and of that of the slot of the mark
 pub kept_table : (d : Device) (size : ℕ) (t : Table)
     → IsDevice d size
     → table_of_slot d d.mark.slot ≡ Some t
-    → IsTableOf size d.geometry d.mark.slot t
+    → IsTableOf d.tail.super_end d.geometry d.mark.slot t
 kept_table d size t kept is = kept_table_at d size d.mark.slot t kept kept.slot is
 
 some_at : (x : Option Table) → is_some x ≡ true → (t : Table) × (x ≡ Some t)
@@ -61,10 +62,10 @@ module _
     (kept : IsDevice d size)
     (idle : d.mark.phase ≡ marks.Idle)
     (plain : d.mark.overlaid ≡ false)
-    (new_table : IsTableOf size d.geometry d.mark.slot u) where
-  new_parts : AreParts size (parts_of d.mark.slot (layout_of u))
+    (new_table : IsTableOf d.tail.super_end d.geometry d.mark.slot u) where
+  new_parts : AreParts d.tail.super_end (parts_of d.mark.slot (layout_of u))
   new_parts =
-      parts_kept size d.mark.slot d.geometry (layout_of u) kept.enough
+      parts_kept d.tail.super_end d.mark.slot d.geometry (layout_of u) kept.enough
       (layout_keeps u new_table.rules) new_table.own new_table.lies
 
   -- the other slot has no table
@@ -74,9 +75,10 @@ module _
   slot_has : (slot : ℕ) → has_slot d.mark.phase d.mark.slot slot ≡ (d.mark.slot == slot)
   slot_has slot = ap (λ (p : MarkPhase). has_slot p d.mark.slot slot) idle
 
-  bare : (parts : Option (List Part)) → IsOverlay size parts d.overlay
+  bare : (parts : Option (List Part)) → IsOverlay d.tail.super_end parts d.overlay
   bare parts =
-      subst (λ (o : Option Part). IsOverlay size parts o) (sym (plain_none d size kept plain)) tt
+      subst (λ (o : Option Part). IsOverlay d.tail.super_end parts o)
+      (sym (plain_none d size kept plain)) tt
 
   pub retabled_a : d.mark.slot ≡ 0
       → IsDevice
@@ -91,6 +93,7 @@ module _
       ap (λ (n : ℕ). is_some (table_of_slot d (other_slot n))) (sym e) ∙ no_other in
       record {
         enough = kept.enough;
+        ends = kept.ends;
         geometry = kept.geometry;
         control = kept.control;
         phase = kept.phase;
@@ -102,7 +105,7 @@ module _
         copies_on = kept.copies_on;
         parts_a = new_parts;
         parts_b = kept.parts_b;
-        table_a = subst (λ (n : ℕ). IsTableOf size d.geometry n u) e new_table;
+        table_a = subst (λ (n : ℕ). IsTableOf d.tail.super_end d.geometry n u) e new_table;
         table_b = kept.table_b;
         source = ap (λ (n : ℕ). is_some (if n == 0 then Some u else d.table_b)) e;
         target =
@@ -134,6 +137,7 @@ module _
       ap (λ (n : ℕ). is_some (table_of_slot d (other_slot n))) (sym e) ∙ no_other in
       record {
         enough = kept.enough;
+        ends = kept.ends;
         geometry = kept.geometry;
         control = kept.control;
         phase = kept.phase;
@@ -146,7 +150,7 @@ module _
         parts_a = kept.parts_a;
         parts_b = new_parts;
         table_a = kept.table_a;
-        table_b = subst (λ (n : ℕ). IsTableOf size d.geometry n u) e new_table;
+        table_b = subst (λ (n : ℕ). IsTableOf d.tail.super_end d.geometry n u) e new_table;
         source = ap (λ (n : ℕ). is_some (if n == 0 then d.table_a else Some u)) e;
         target =
             ap (λ (n : ℕ). is_some (if other_slot n == 0 then d.table_a else Some u)) e

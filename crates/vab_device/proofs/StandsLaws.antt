@@ -13,6 +13,7 @@ use Rattle.vab_marks.specs.declared.version.MarkVersion.TheVariants.{Two}
 use Rattle.vab_statuses.specs.Statuses.{written_in}
 use Rattle.vab_geometry.specs.declared.geometry.Geometry.{Geometry}
 use Rattle.vab_tables.specs.declared.table.Table.{Table}
+use Rattle.vab_physical.specs.declared.tail.Tail.{Tail}
 use Rattle.vab_device.specs.declared.device.Device.{Device}
 use Rattle.vab_device.specs.Idle.{idle_read, control_read_of}
 use Rattle.vab_device.specs.Kept.{table_of_slot}
@@ -26,13 +27,13 @@ use Rattle.vab_device.proofs.UpdateLaws.{kept_with}
 use Rattle.vab_marks.specs.Mark.{rephased, resloted}
 
 -- the reading of such a device
-abbrev pub read_at : UpdateMark → Control → Geometry → Table → Read
-read_at m c g t = idle_read (rephased marks.Idle m) c g t
+abbrev pub read_at : UpdateMark → Control → Tail → Geometry → Table → Read
+read_at m c tail g t = idle_read (rephased marks.Idle m) c tail g t
 
 -- The disk is read so, and is the kept device, whose slot has this table.
 pub record StandsIdle (d : Device) (size : ℕ) (image : Image) (t : Table) : Type 0 where
-  pub reads : Reads size (read_at d.mark d.control d.geometry t) image
-  pub is : d ≡ kept_with (read_at d.mark d.control d.geometry t) d.control
+  pub reads : Reads size (read_at d.mark d.control d.tail d.geometry t) image
+  pub is : d ≡ kept_with (read_at d.mark d.control d.tail d.geometry t) d.control
   pub control : control_of (image 4) ≡ Ok d.control
   pub copies : AgreeCopies d.geometry (d.mark.slot ∷ []) (t ∷ []) image
   pub version : version_at image ≡ Two
@@ -46,12 +47,13 @@ no_statuses image ss is =
     cc
 
 -- the table that is kept of the slot
-kept_table : (m : UpdateMark) (slot : ℕ) (c seen : Control) (g : Geometry) (t : Table)
+kept_table : (m : UpdateMark) (slot : ℕ) (c seen : Control) (tail : Tail)
+    (g : Geometry) (t : Table)
     → slot < 2
-    → table_of_slot (kept_with (read_at (resloted slot m) seen g t) c) slot ≡ Some t
-kept_table m zero c seen g t below = refl
-kept_table m (suc zero) c seen g t below = refl
-kept_table m (suc (suc n)) c seen g t below = absurd (omega (arith, below))
+    → table_of_slot (kept_with (read_at (resloted slot m) seen tail g t) c) slot ≡ Some t
+kept_table m zero c seen tail g t below = refl
+kept_table m (suc zero) c seen tail g t below = refl
+kept_table m (suc (suc n)) c seen tail g t below = absurd (omega (arith, below))
 
 module _
     (d : Device) (size : ℕ) (image : Image) (t : Table)
@@ -68,6 +70,9 @@ module _
 
   own : d.mark.slot ≡ r.mark.slot
   own = ap (λ (m : UpdateMark). m.slot) marked
+
+  ends : d.tail ≡ r.tail
+  ends = ap (λ (k : Device). k.tail) is.is
 
   geometry : d.geometry ≡ r.geometry
   geometry = ap (λ (k : Device). k.geometry) is.is
@@ -116,11 +121,12 @@ module _
       phase is.reads.control)
       is.control
 
-  shape : r ≡ read_at r.mark d.control r.geometry one.0
+  shape : r ≡ read_at r.mark d.control r.tail r.geometry one.0
   shape = (λ i. record {
     mark = phased i;
     statuses = statuses i;
     control = seen i;
+    tail = r.tail;
     geometry = r.geometry;
     tables = one.1 i;
     scanned = scanned i;
@@ -134,17 +140,18 @@ module _
       ∙ subst
       (λ (n : ℕ).
       table_of_slot
-      (kept_with (read_at r.mark d.control r.geometry one.0) d.control)
+      (kept_with (read_at r.mark d.control r.tail r.geometry one.0) d.control)
       n
       ≡ Some one.0)
       (sym own)
-      (kept_table r.mark r.mark.slot d.control d.control r.geometry one.0
+      (kept_table r.mark r.mark.slot d.control d.control r.tail r.geometry one.0
       (subst (λ (n : ℕ). n < 2) own below)) in
       let both : Some one.0 ≡ Some t = sym there ∙ has in
       cc
 
-  whole : r ≡ read_at d.mark d.control d.geometry t
-  whole = shape ∙ (λ i. read_at (sym marked i) d.control (sym geometry i) (same i))
+  whole : r ≡ read_at d.mark d.control d.tail d.geometry t
+  whole = shape ∙ (λ i.
+      read_at (sym marked i) d.control (sym ends i) (sym geometry i) (same i))
 
   pub stands_idle : StandsIdle d size image t
   stands_idle = record {

@@ -2,7 +2,8 @@
 use Rattle.std.specs.Prelude.{◌≡◌, Result, Ok, Err}
 use Rattle.vab_device.specs.declared.fault.StartFault.{StartFault}
 use Rattle.vab_device.specs.declared.fault.StartFault.TheVariants.{TooSmall, BadMark, BadControl}
-use Rattle.vab_device.specs.declared.fault.StartFault.TheVariants.{BadGeometry, BadTable}
+use Rattle.vab_device.specs.declared.fault.StartFault.TheVariants.{BadPhysical, BadGeometry}
+use Rattle.vab_device.specs.declared.fault.StartFault.TheVariants.{BadTable}
 use Rattle.vab_device.specs.declared.fault.StartFault.TheVariants.{BadPartition, BadStore, BadState}
 use Rattle.vab_device.specs.declared.fault.StartFault.TheVariants.{NoMemory, Disk}
 
@@ -11,6 +12,7 @@ abbrev pub IsOfContents : StartFault → Type 0
 IsOfContents (TooSmall need have) = Unit {0}
 IsOfContents (BadMark sector) = Unit {0}
 IsOfContents (BadControl fault) = Unit {0}
+IsOfContents BadPhysical = Unit {0}
 IsOfContents BadGeometry = Unit {0}
 IsOfContents (BadTable slot) = Unit {0}
 IsOfContents (BadPartition name) = Unit {0}
@@ -24,6 +26,7 @@ abbrev pub IsOfDisk : StartFault → Type 0
 IsOfDisk (TooSmall need have) = ⊥
 IsOfDisk (BadMark sector) = ⊥
 IsOfDisk (BadControl fault) = ⊥
+IsOfDisk BadPhysical = ⊥
 IsOfDisk BadGeometry = ⊥
 IsOfDisk (BadTable slot) = ⊥
 IsOfDisk (BadPartition name) = ⊥

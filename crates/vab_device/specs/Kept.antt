@@ -58,22 +58,24 @@ parts_of slot l = map (part_on l.device.first_logical_sector) (own_parts slot l.
 
 -- ---- the places of the tables
 
--- the bytes of `super`, from sector 4096 to the end
+-- the bytes of `super`, from sector 4096 to the one where it ends
 abbrev pub super_bytes : ℕ → ℕ
-super_bytes size = 512 * (size - 4096)
+super_bytes super_end = 512 * (super_end - 4096)
 
 -- where the copies of the tables end, in bytes of `super`
 abbrev pub copies_end : Geometry → ℕ
 copies_end g = 12288 + 2 * g.slots * g.max
 
 -- the block device lies in `super`, and its first logical sector behind the copies
-abbrev pub lies_in : ℕ → Geometry → BlockDevice → Bool
-lies_in size g d =
-    nat_le d.size (super_bytes size) && nat_le (copies_end g) (512 * d.first_logical_sector)
+abbrev pub lies_in : (super_end : ℕ) → Geometry → BlockDevice → Bool
+lies_in super_end g d =
+    nat_le d.size (super_bytes super_end)
+    && nat_le (copies_end g) (512 * d.first_logical_sector)
 
 -- ---- what holds of a kept device over every disk
 
--- the blocks of a store lie on the disk, none twice, and none is one of its partition's own
+-- the blocks of a store lie in front of this sector, none twice, and none is one of its
+-- partition's own
 pub record IsStore (size : ℕ) (base store : List ℕ) : Type 0 where
   pub on_disk : All (λ s. s + 8 ≤ size) store
   pub once : AllPairs (λ a b. a ≢ b) store
@@ -90,7 +92,7 @@ IsStored size base (Some store) Declared = IsStore size base store
 IsStored size base (Some store) (Written k es) =
     IsStore size base store × Fits k (length base) store es
 
--- Its name, at most 2^28 blocks on the disk, none twice, and its store.
+-- Its name, at most 2^28 blocks in front of this sector, none twice, and its store.
 pub record IsPart (size : ℕ) (p : Part) : Type 0 where
   pub name : IsTrue (is_base p.name)
   pub on_disk : All (λ s. s + 8 ≤ size) p.map
@@ -213,12 +215,14 @@ IsOverlay size parts None = Unit {0}
 IsOverlay size None (Some p) = ⊥
 IsOverlay size (Some parts) (Some p) = IsOverlaidOn size parts p
 
--- On a disk of so many sectors. The slot of the mark has images and a table, and it is current, or
--- the other is where that has images as well. While an update is installed, the other has a table,
--- and its partitions are planned; where the update is ready, it has images. Where the mark says so,
--- one of the slot's partitions is overlaid.
+-- On a disk of so many sectors, where `super` ends at one of them or behind the last. The slot of
+-- the mark has images and a table, and it is current, or the other is where that has images as
+-- well. While an update is installed, the other has a table, and its partitions are planned; where
+-- the update is ready, it has images. Where the mark says so, one of the slot's partitions is
+-- overlaid.
 pub record IsDevice (d : Device) (size : ℕ) : Type 0 where
-  pub enough : 4120 ≤ size
+  pub enough : 4120 ≤ d.tail.super_end
+  pub ends : d.tail.super_end ≤ size
   pub geometry : IsGeometry d.geometry
   pub control : FitsControl d.control
   pub phase : IsPhase d.mark.phase
@@ -227,18 +231,18 @@ pub record IsDevice (d : Device) (size : ℕ) : Type 0 where
   pub current : has_slot d.mark.phase d.mark.slot d.control.current ≡ true
   pub has_a : is_some d.a ≡ has_slot d.mark.phase d.mark.slot 0
   pub has_b : is_some d.b ≡ has_slot d.mark.phase d.mark.slot 1
-  pub copies_on : copies_end d.geometry ≤ super_bytes size
-  pub parts_a : ArePresent size d.a
-  pub parts_b : ArePresent size d.b
-  pub table_a : IsKeptTable size d.geometry 0 d.table_a
-  pub table_b : IsKeptTable size d.geometry 1 d.table_b
+  pub copies_on : copies_end d.geometry ≤ super_bytes d.tail.super_end
+  pub parts_a : ArePresent d.tail.super_end d.a
+  pub parts_b : ArePresent d.tail.super_end d.b
+  pub table_a : IsKeptTable d.tail.super_end d.geometry 0 d.table_a
+  pub table_b : IsKeptTable d.tail.super_end d.geometry 1 d.table_b
   pub source : is_some (table_of_slot d d.mark.slot) ≡ true
   pub target : is_some (table_of_slot d (other_slot d.mark.slot)) ≡ reads_both d.mark.phase
   pub planned : is_some d.plan ≡ is_installing d.mark.phase
-  pub plan : ArePresent size d.plan
+  pub plan : ArePresent d.tail.super_end d.plan
   pub update : IsUpdate d.mark.apart
       d.mark.slot
       (table_of_slot d d.mark.slot)
       (table_of_slot d (other_slot d.mark.slot))
   pub overlaid : is_some d.overlay ≡ d.mark.overlaid
-  pub overlay : IsOverlay size (parts_at d d.mark.slot) d.overlay
+  pub overlay : IsOverlay d.tail.super_end (parts_at d d.mark.slot) d.overlay

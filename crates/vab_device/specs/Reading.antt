@@ -10,6 +10,7 @@ use Rattle.vab_bootctl.specs.Control.{control_of}
 use Rattle.vab_marks.specs.declared.mark.MarkPhase.{MarkPhase}
 use Rattle.vab_marks.specs.declared.mark.MarkPhase.TheVariants as marks
 use Rattle.vab_marks.specs.declared.mark.UpdateMark.{UpdateMark}
+use Rattle.vab_marks.specs.declared.physical.PhysicalSizes.{PhysicalSizes}
 use Rattle.vab_marks.specs.declared.sector.MarkFault.{MarkFault}
 use Rattle.vab_marks.specs.declared.status.PartStatus.{PartStatus}
 use Rattle.vab_marks.specs.declared.version.MarkVersion.{MarkVersion}
@@ -30,9 +31,12 @@ use Rattle.vab_lpstore.specs.Loading.{slot_table}
 use Rattle.vab_tables.specs.Text.{IsTableText}
 use Rattle.vab_layout.specs.Layout.{layout_of}
 use Rattle.vab_model.specs.State.{control_seen}
+use Rattle.vab_physical.specs.declared.tail.Tail.{Tail}
+use Rattle.vab_physical.specs.Tail.{tail_in}
 use Rattle.vab_device.specs.declared.fault.StartFault.{StartFault}
 use Rattle.vab_device.specs.declared.fault.StartFault.TheVariants.{TooSmall, BadMark, BadControl}
-use Rattle.vab_device.specs.declared.fault.StartFault.TheVariants.{BadGeometry, BadTable}
+use Rattle.vab_device.specs.declared.fault.StartFault.TheVariants.{BadPhysical, BadGeometry}
+use Rattle.vab_device.specs.declared.fault.StartFault.TheVariants.{BadTable}
 use Rattle.vab_device.specs.declared.device.Part.{Part}
 use Rattle.vab_device.specs.declared.device.PartImage.{PartImage}
 use Rattle.vab_device.specs.declared.device.PartImage.TheVariants.{Kept, Declared, Written}
@@ -50,6 +54,7 @@ pub record Read : Type 0 where
   pub mark : UpdateMark
   pub statuses : List (Option PartStatus)
   pub control : Control
+  pub tail : Tail
   pub geometry : Geometry
   pub tables : List Table
   pub scanned : List Scanned
@@ -100,32 +105,52 @@ control_in has_a has_b image = control_read has_a has_b (control_of (image 4))
 abbrev pub control_kept : UpdateMark → Control → Control
 control_kept m c = control_seen (has_slot m.phase m.slot 0) (has_slot m.phase m.slot 1) c
 
-abbrev pub geometry_read : ℕ
+-- without physical partitions `super` ends with the disk
+abbrev pub whole_disk : (size : ℕ) → Tail
+whole_disk size = record { sizes = record { boot = 0; vbmeta = 0 }; super_end = size }
+
+abbrev pub tail_there : Option Tail → Result Tail StartFault
+tail_there None = Err BadPhysical
+tail_there (Some tail) = Ok tail
+
+-- the sizes of the physical partitions, in sector 2113, where the mark says that there are some,
+-- and where `super` ends on a disk of so many sectors
+unfoldable pub tail_at : (physical : Bool) → (size : ℕ) → Image → Result Tail StartFault
+tail_at false size image = Ok (whole_disk size)
+tail_at true size image = tail_there (tail_in size image)
+
+abbrev pub geometry_read : (super_end : ℕ)
     → Result Geometry (GeometryFault × GeometryFault)
     → Result Geometry StartFault
-geometry_read size (Ok g) = unless (nat_le (copies_end g) (super_bytes size)) BadGeometry (Ok g)
-geometry_read size (Err faults) = Err BadGeometry
+geometry_read super_end (Ok g) =
+    unless (nat_le (copies_end g) (super_bytes super_end)) BadGeometry (Ok g)
+geometry_read super_end (Err faults) = Err BadGeometry
 
-unfoldable pub geometry_at : ℕ → Image → Result Geometry StartFault
-geometry_at size image = geometry_read size (geometry_in image)
+unfoldable pub geometry_at : (super_end : ℕ) → Image → Result Geometry StartFault
+geometry_at super_end image = geometry_read super_end (geometry_in image)
 
-abbrev pub table_read : ℕ
+abbrev pub table_read : (super_end : ℕ)
     → Geometry
     → ℕ
     → Result Table (TableFault × TableFault)
     → Result Table StartFault
-table_read size g slot (Ok t) = unless (lies_in size g (layout_of t).device) (BadTable slot) (Ok t)
-table_read size g slot (Err faults) = Err (BadTable slot)
+table_read super_end g slot (Ok t) =
+    unless (lies_in super_end g (layout_of t).device) (BadTable slot) (Ok t)
+table_read super_end g slot (Err faults) = Err (BadTable slot)
 
 -- a slot's table
-unfoldable pub table_at : ℕ → Geometry → ℕ → Image → Result Table StartFault
-table_at size g slot image = table_read size g slot (slot_table g slot image)
+unfoldable pub table_at : (super_end : ℕ) → Geometry → ℕ → Image → Result Table StartFault
+table_at super_end g slot image = table_read super_end g slot (slot_table g slot image)
 
-abbrev pub tables_in : ℕ → Geometry → List ℕ → Image → Result (List Table) StartFault
-tables_in size g [] image = Ok []
-tables_in size g (slot ∷ slots) image =
-    table_at size g slot image >>= λ t.
-    tables_in size g slots image >>= λ ts.
+abbrev pub tables_in : (super_end : ℕ)
+    → Geometry
+    → List ℕ
+    → Image
+    → Result (List Table) StartFault
+tables_in super_end g [] image = Ok []
+tables_in super_end g (slot ∷ slots) image =
+    table_at super_end g slot image >>= λ t.
+    tables_in super_end g slots image >>= λ ts.
     Ok (t ∷ ts)
 
 -- ---- the links: each takes what the one before has read
@@ -135,12 +160,14 @@ abbrev pub framed : ℕ → UpdateMark → Phase → Image → Result Read Start
 framed size m p image =
     statuses_at p.reads_statuses image >>= λ ss.
     control_in p.has_a p.has_b image >>= λ c.
-    geometry_at size image >>= λ g.
-    tables_in size g p.tables image >>= λ ts.
+    tail_at m.physical size image >>= λ tail.
+    geometry_at tail.super_end image >>= λ g.
+    tables_in tail.super_end g p.tables image >>= λ ts.
     Ok (record {
       mark = m;
       statuses = ss;
       control = c;
+      tail = tail;
       geometry = g;
       tables = ts;
       scanned = [];
@@ -203,6 +230,7 @@ kept r = record {
   geometry = r.geometry;
   control = r.control;
   mark = r.mark;
+  tail = r.tail;
   cap = of_first_table 0 (λ t. cap_of (layout_of t).device) r.tables;
   groups = of_first_table [] (λ t. limits_of r.mark.slot t.groups) r.tables;
   a = parts_for 0
@@ -243,8 +271,9 @@ pub record Reads (size : ℕ) (r : Read) (image : Image) : Type 0 where
       (phase_at r.mark).has_b
       image
       ≡ Ok r.control
-  pub geometry : geometry_at size image ≡ Ok r.geometry
-  pub tables : tables_in size r.geometry (phase_at r.mark).tables image
+  pub tail : tail_at r.mark.physical size image ≡ Ok r.tail
+  pub geometry : geometry_at r.tail.super_end image ≡ Ok r.geometry
+  pub tables : tables_in r.tail.super_end r.geometry (phase_at r.mark).tables image
       ≡ Ok r.tables
   pub parts : part_fault (most_at image) r ≡ None
   pub stores : scans_in (stores_of r) image ≡ Ok r.scanned
@@ -293,9 +322,10 @@ pub record SameRead (size : ℕ) (r : Read) (old new : Image) : Type 0 where
       (phase_at r.mark).has_a
       (phase_at r.mark).has_b
       old
-  pub geometry : geometry_at size new ≡ geometry_at size old
-  pub tables : tables_in size r.geometry (phase_at r.mark).tables new
-      ≡ tables_in size r.geometry (phase_at r.mark).tables old
+  pub tail : tail_at r.mark.physical size new ≡ tail_at r.mark.physical size old
+  pub geometry : geometry_at r.tail.super_end new ≡ geometry_at r.tail.super_end old
+  pub tables : tables_in r.tail.super_end r.geometry (phase_at r.mark).tables new
+      ≡ tables_in r.tail.super_end r.geometry (phase_at r.mark).tables old
   pub stores : scans_in (stores_of r) new ≡ scans_in (stores_of r) old
   pub images_a : images_on new (kept r).a ≡ images_on old (kept r).a
   pub images_b : images_on new (kept r).b ≡ images_on old (kept r).b
@@ -365,6 +395,7 @@ pub data Live (r : Read) (s : ℕ) : Type 0 where
   of_mark : s ≡ 2048 → Live r s
   of_statuses : (phase_at r.mark).reads_statuses ≡ true → IsOfStatuses s → Live r s
   of_control : s ≡ 4 → Live r s
+  of_sizes : r.mark.physical ≡ true → s ≡ 2113 → Live r s
   of_geometry : (s ≡ 4104) ⊎ (s ≡ 4112) → Live r s
   of_tables : IsOfTables r.geometry (phase_at r.mark).tables s → Live r s
   of_stores : IsOfStores (stores_of r) r.scanned s → Live r s

@@ -10,6 +10,7 @@ use vab_geometry::Geometry;
 use vab_linear::Map;
 use vab_marks::{MarkPhase, UpdateMark};
 use vab_model::GroupLimit;
+use vab_physical::Tail;
 use vab_space::Chunk;
 use vab_store::StoreView;
 use vab_tables::Table;
@@ -46,6 +47,9 @@ pub struct Device {
     pub geometry: Geometry,
     pub control: Control,
     pub mark: UpdateMark,
+    /// Where `super` ends, and the sizes of the physical partitions behind it: 0, where there are
+    /// none.
+    pub tail: Tail,
     /// Blocks of 4096 bytes that partitions may have.
     pub cap: u64,
     /// The groups in their order, without the slot's suffix, but for that of no slot.

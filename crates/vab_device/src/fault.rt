@@ -16,6 +16,10 @@ pub enum StartFault {
     BadMark(u64),
     /// Sector 4 is no boot control.
     BadControl(ControlFault),
+    /// The mark says that there are physical partitions, and sector 2113 holds no sizes of them, or
+    /// the disk has fewer than 4120 sectors in front of them. No device has physical partitions
+    /// yet, so this doesn't come.
+    BadPhysical,
     /// Neither copy of the geometry passes, or the copies of the tables pass the end of `super`.
     BadGeometry,
     /// Neither copy of this slot's table is a table's text, or its block device doesn't lie in

@@ -66,7 +66,7 @@ pub copies_within : (d : Device) (size slot : ℕ)
     → backup_of d.geometry slot + copy_sectors d.geometry ≤ size
 copies_within d size slot kept below =
     let ends = ends_within d.geometry slot kept.geometry below in
-    omega (arith, ends, kept.copies_on, kept.enough)
+    omega (arith, ends, kept.copies_on, kept.enough, kept.ends)
 
 pub prepared_differs : (d : Device) (edit : Edit) (u : Table) (text : List ℕ) (plan : List Part)
     → IsPrepared d edit u text plan
@@ -205,7 +205,7 @@ module _ {D : Type 0} (g : Ghosts D) (d : Device) (edit : Edit) (staged : Option
     st : g.is_modelled → StandsUpdate d (g.size old) (g.seen old) p.s p.t
     st t = stands_update d (g.size old) (g.seen old) p.s p.t kept p.tables (is t)
 
-    lies : lies_in (g.size old) d.geometry (layout_of u).device ≡ true
+    lies : lies_in d.tail.super_end d.geometry (layout_of u).device ≡ true
     lies = new_lies d (g.size old) edit p.s p.t u kept p.tables p.given.is_edited p.free
 
     was : IsTargetBeside (other_slot d.mark.slot) (twins_by d.mark.apart (layout_of p.s).parts)
@@ -272,7 +272,7 @@ module _ {D : Type 0} (g : Ghosts D) (d : Device) (edit : Edit) (staged : Option
         (others : SameElsewhere d.geometry (other_slot d.mark.slot) (text_sectors (length text))
         (g.seen old) image) where
       mounted : mounted_on
-          (device_at d.mark d.mark.slot (st t).statuses (st t).seen d.geometry p.s u
+          (device_at d.mark d.mark.slot (st t).statuses (st t).seen d.tail d.geometry p.s u
           (st t).scanned d.control)
           image
           ≡ next
@@ -280,8 +280,9 @@ module _ {D : Type 0} (g : Ghosts D) (d : Device) (edit : Edit) (staged : Option
           mounted_edited (g.size old) d.mark d.mark.slot (text_sectors (length text))
           (st t).statuses
           (st t).seen
-          d.geometry p.s p.t u (st t).scanned edit (g.seen old) image kept.geometry kept.slot fits
-          (st t).reads was stores_were p.given.is_edited (free t) lies (st t).version others
+          d.tail d.geometry p.s p.t u (st t).scanned edit (g.seen old) image kept.geometry
+          kept.slot fits (st t).reads was stores_were p.given.is_edited (free t) lies
+          (st t).version others
           d.control
           ∙ (λ i. installing_with (mounted_on (sym (st t).is i) (g.seen old)) d.mark.slot
           (plan_at d.mark.apart (g.seen old)
@@ -294,23 +295,25 @@ module _ {D : Type 0} (g : Ghosts D) (d : Device) (edit : Edit) (staged : Option
       means there =
           device_edited (g.size old) d.mark d.mark.slot (text_sectors (length text)) (st t).statuses
           (st t).seen
-          d.geometry p.s p.t u (st t).scanned edit (g.seen old) image kept.geometry kept.slot fits
-          (st t).reads was stores_were p.given.is_edited (free t) lies (st t).version others
+          d.tail d.geometry p.s p.t u (st t).scanned edit (g.seen old) image kept.geometry
+          kept.slot fits (st t).reads was stores_were p.given.is_edited (free t) lies
+          (st t).version others
           d.control (st t).control
           there
           ∙ ap Ok mounted
 
       represents_at : BothHold d.geometry (other_slot d.mark.slot) text image
           → Represents
-          (device_at d.mark d.mark.slot (st t).statuses (st t).seen d.geometry p.s u
+          (device_at d.mark d.mark.slot (st t).statuses (st t).seen d.tail d.geometry p.s u
           (st t).scanned d.control)
           (g.size old) image
       represents_at held =
           represents_edited (g.size old) d.mark d.mark.slot (text_sectors (length text))
           (st t).statuses
           (st t).seen
-          d.geometry p.s p.t u (st t).scanned edit (g.seen old) image kept.geometry kept.slot fits
-          (st t).reads was stores_were p.given.is_edited (free t) lies (st t).version others
+          d.tail d.geometry p.s p.t u (st t).scanned edit (g.seen old) image kept.geometry
+          kept.slot fits (st t).reads was stores_were p.given.is_edited (free t) lies
+          (st t).version others
           d.control text
           (st t).control (st t).copies p.given.is_text held
 
@@ -327,17 +330,18 @@ module _ {D : Type 0} (g : Ghosts D) (d : Device) (edit : Edit) (staged : Option
           ∙ carried_plan (g.size old) d.mark d.mark.slot (text_sectors (length text))
           (st t).statuses
           (st t).seen
-          d.geometry p.s p.t u (st t).scanned edit (g.seen old) image kept.geometry kept.slot fits
-          (st t).reads was stores_were p.given.is_edited (free t) lies (st t).version others
+          d.tail d.geometry p.s p.t u (st t).scanned edit (g.seen old) image kept.geometry
+          kept.slot fits (st t).reads was stores_were p.given.is_edited (free t) lies
+          (st t).version others
 
       device_is : with_target d (other_slot d.mark.slot) u (carried_over d.plan plan)
-          ≡ device_at d.mark d.mark.slot (st t).statuses (st t).seen d.geometry p.s u
+          ≡ device_at d.mark d.mark.slot (st t).statuses (st t).seen d.tail d.geometry p.s u
           (st t).scanned d.control
       device_is =
           ap
           (λ (x : Device). with_target x (other_slot d.mark.slot) u (carried_over d.plan plan))
           (st t).is
-          ∙ target_kept d.mark d.mark.slot (st t).statuses (st t).seen d.geometry p.s p.t u
+          ∙ target_kept d.mark d.mark.slot (st t).statuses (st t).seen d.tail d.geometry p.s p.t u
           (st t).scanned
           d.control (carried_over d.plan plan) kept.slot plan_is
 
@@ -361,11 +365,11 @@ module _ {D : Type 0} (g : Ghosts D) (d : Device) (edit : Edit) (staged : Option
           step = inl refl;
           means =
               device_same (g.size old)
-              (read_at d.mark d.mark.slot (st t).statuses (st t).seen d.geometry p.s p.t
+              (read_at d.mark d.mark.slot (st t).statuses (st t).seen d.tail d.geometry p.s p.t
               (st t).scanned)
               (g.seen old) o.image (st t).reads
               (repair_same (g.size old) (text_sectors (length text)) (other_slot d.mark.slot)
-              (read_at d.mark d.mark.slot (st t).statuses (st t).seen d.geometry p.s p.t
+              (read_at d.mark d.mark.slot (st t).statuses (st t).seen d.tail d.geometry p.s p.t
               (st t).scanned)
               (g.seen old) o.image kept.geometry kept.slot (other_below d.mark.slot) fits
               (st t).reads

@@ -1,5 +1,5 @@
 -- A kept device with another table and plan of the target is one.
-use Rattle.std.proofs.Common.{◌≡◌, ◌∙◌, ◌⊎◌, inl, inr, ℕ, zero, suc, ◌<◌, true, List, [], refl, sym}
+use Rattle.std.proofs.Common.{◌≡◌, ◌∙◌, inl, inr, ℕ, true, List, [], sym}
 use Rattle.std.proofs.Common.{ap, subst, arith}
 use Rattle.std.specs.Prelude.{map, is_some, Option, Some, None, if◌then◌else◌, ◌==◌}
 use Rattle.vab_marks.specs.declared.mark.MarkPhase.TheVariants as marks
@@ -11,7 +11,7 @@ use Rattle.vab_builder.specs.declared.edit.Edit.{Edit}
 use Rattle.vab_device.specs.declared.device.Part.{Part}
 use Rattle.vab_device.specs.declared.device.Device.{Device}
 use Rattle.vab_device.specs.Kept.{lies_in, table_of_slot, is_installing, reads_both, IsTableOf}
-use Rattle.vab_device.specs.Kept.{IsKeptTable, ArePresent, AreParts, AreOfUpdate, IsUpdate}
+use Rattle.vab_device.specs.Kept.{ArePresent, AreParts, AreOfUpdate, IsUpdate}
 use Rattle.vab_device.specs.Kept.{IsDevice}
 use Rattle.vab_device.specs.Phases.{plan_of}
 use Rattle.vab_device.proofs.PhaseCases.{cases_slot}
@@ -46,12 +46,12 @@ module _
   o : ℕ
   o = other_slot d.mark.slot
 
-  pub new_lies : lies_in size d.geometry (layout_of u).device ≡ true
+  pub new_lies : lies_in d.tail.super_end d.geometry (layout_of u).device ≡ true
   new_lies =
-      ap (lies_in size d.geometry) (device_of_layout t u edited.device)
+      ap (lies_in d.tail.super_end d.geometry) (device_of_layout t u edited.device)
       ∙ (kept_table_at d size (other_slot d.mark.slot) t kept (omega arith) has.target).lies
 
-  new_table : IsTableOf size d.geometry (other_slot d.mark.slot) u
+  new_table : IsTableOf d.tail.super_end d.geometry (other_slot d.mark.slot) u
   new_table = record {
     rules = edited.rules;
     small = omega (arith, edited.size, kept.geometry.most);
@@ -59,12 +59,12 @@ module _
     lies = new_lies;
   }
 
-  new_plan : AreParts size
+  new_plan : AreParts d.tail.super_end
       (map (carried has.old_plan) (plan_of (other_slot d.mark.slot) (layout_of u) []))
   new_plan =
-      all_carried size has.old_plan (plan_of (other_slot d.mark.slot) (layout_of u) [])
-      (subst (ArePresent size) has.is_planned kept.plan)
-      (fresh_planned size (other_slot d.mark.slot) d.geometry (layout_of u)
+      all_carried d.tail.super_end has.old_plan (plan_of (other_slot d.mark.slot) (layout_of u) [])
+      (subst (ArePresent d.tail.super_end) has.is_planned kept.plan)
+      (fresh_planned d.tail.super_end (other_slot d.mark.slot) d.geometry (layout_of u)
       (twins_by d.mark.apart (layout_of s).parts) (layout_of s).parts
       kept.enough (layout_keeps u edited.rules) edited.target new_lies)
 
@@ -93,13 +93,14 @@ module _
   }
 
   beside_a : (plan : List Part)
-      → AreParts size plan
+      → AreParts d.tail.super_end plan
       → d.mark.slot ≡ 0
       → IsDevice (record d { table_b = Some u; plan = Some plan }) size
   beside_a plan is e =
       let ta : d.table_a ≡ Some s = ap (table_of_slot d) (sym e) ∙ has.source in
       record {
         enough = kept.enough;
+        ends = kept.ends;
         geometry = kept.geometry;
         control = kept.control;
         phase = kept.phase;
@@ -112,7 +113,8 @@ module _
         parts_a = kept.parts_a;
         parts_b = kept.parts_b;
         table_a = kept.table_a;
-        table_b = subst (λ (n : ℕ). IsTableOf size d.geometry (other_slot n) u) e new_table;
+        table_b =
+            subst (λ (n : ℕ). IsTableOf d.tail.super_end d.geometry (other_slot n) u) e new_table;
         source =
             ap (λ (n : ℕ). is_some (if n == 0 then d.table_a else Some u)) e ∙ ap is_some ta;
         target =
@@ -134,13 +136,14 @@ module _
       }
 
   beside_b : (plan : List Part)
-      → AreParts size plan
+      → AreParts d.tail.super_end plan
       → d.mark.slot ≡ 1
       → IsDevice (record d { table_a = Some u; plan = Some plan }) size
   beside_b plan is e =
       let tb : d.table_b ≡ Some s = ap (table_of_slot d) (sym e) ∙ has.source in
       record {
         enough = kept.enough;
+        ends = kept.ends;
         geometry = kept.geometry;
         control = kept.control;
         phase = kept.phase;
@@ -152,7 +155,8 @@ module _
         copies_on = kept.copies_on;
         parts_a = kept.parts_a;
         parts_b = kept.parts_b;
-        table_a = subst (λ (n : ℕ). IsTableOf size d.geometry (other_slot n) u) e new_table;
+        table_a =
+            subst (λ (n : ℕ). IsTableOf d.tail.super_end d.geometry (other_slot n) u) e new_table;
         table_b = kept.table_b;
         source =
             ap (λ (n : ℕ). is_some (if n == 0 then Some u else d.table_b)) e ∙ ap is_some tb;
@@ -178,7 +182,8 @@ module _
       → plan ≡ map (carried has.old_plan) (plan_of (other_slot d.mark.slot) (layout_of u) [])
       → IsDevice (with_target d (other_slot d.mark.slot) u plan) size
   next_kept plan is =
-      let planned : AreParts size plan = subst (AreParts size) (sym is) new_plan in
+      let planned : AreParts d.tail.super_end plan =
+      subst (AreParts d.tail.super_end) (sym is) new_plan in
       elim (cases_slot d.mark.slot kept.slot) [
         | inl e ↦
             subst (λ (x : Device). IsDevice x size)

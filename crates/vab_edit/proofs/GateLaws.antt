@@ -27,6 +27,7 @@ use Rattle.vab_partitions.specs.Twins.{are_twins, are_devices}
 use Rattle.vab_partitions.proofs.BadTarget.{target_not_bad}
 use Rattle.vab_partitions.proofs.TwinLaws.{twins_are, devices_are}
 use Rattle.vab_builder.specs.declared.edit.Edit.{Edit}
+use Rattle.vab_physical.specs.declared.tail.Tail.{Tail}
 use Rattle.vab_device.specs.declared.fault.StartFault.TheVariants.{BadTable}
 use Rattle.vab_device.specs.Checks.{Check, check, names_none, first_fault, unless, ◌>>=◌}
 use Rattle.vab_device.specs.Kept.{copies_end, lies_in, HasNoStores}
@@ -39,8 +40,8 @@ use Rattle.vab_device.specs.Updates.{plan_by, installing_with}
 use Rattle.vab_device.proofs.Behind.{images_behind, stores_behind, plan_behind}
 use Rattle.vab_device.proofs.CheckLaws.{first_kept, check_kept}
 use Rattle.vab_device.proofs.RepairLaws.{end_of, other_table}
-use Rattle.vab_device.proofs.SameLaws.{mark_same, control_same, geometry_same, table_same}
-use Rattle.vab_device.proofs.SameLaws.{images_same}
+use Rattle.vab_device.proofs.SameLaws.{mark_same, control_same, tail_kept, geometry_same}
+use Rattle.vab_device.proofs.SameLaws.{table_same, images_same}
 use Rattle.vab_device.proofs.StoreLaws.{statuses_kept, stores_kept, plan_kept}
 use Rattle.vab_edit.specs.Carried.{carried}
 use Rattle.vab_edit.specs.Guards.{kept_from}
@@ -89,26 +90,26 @@ device_of_layout t u e = ap first_device e
 
 module _
     (size : ℕ) (base : UpdateMark) (k n : ℕ) (statuses : List (Option PartStatus))
-    (seen : Control) (g : Geometry)
+    (seen : Control) (tail : Tail) (g : Geometry)
     (s t u : Table) (scanned : List Scanned) (edit : Edit) (old image : Image)
     (rules : IsGeometry g)
     (below : k < 2)
     (fits : n ≤ copy_sectors g)
-    (reads : Reads size (read_at base k statuses seen g s t scanned) old)
+    (reads : Reads size (read_at base k statuses seen tail g s t scanned) old)
     (was : IsTargetBeside (other_slot k) (twins_by base.apart (layout_of s).parts)
     (layout_of s).parts (layout_of t).parts)
     (stores_were : HasNoStores base.apart (layout_of t).parts)
     (edited : IsEdited base.apart g.max k edit s t u)
     (free : kept_from base.apart (other_slot k) (plan_of (other_slot k) (layout_of t) scanned) edit
     ≡ None)
-    (lies : lies_in size g (layout_of u).device ≡ true)
+    (lies : lies_in tail.super_end g (layout_of u).device ≡ true)
     (two : version_at old ≡ Two)
     (others : SameElsewhere g (other_slot k) n old image) where
   abbrev o : ℕ
   o = other_slot k
 
   abbrev r : Read
-  r = read_at base k statuses seen g s t scanned
+  r = read_at base k statuses seen tail g s t scanned
 
   before : (a : ℕ) → a < 4120 → image a ≡ old a
   unfolding primary_of backup_of
@@ -151,9 +152,9 @@ module _
   version : version_at image ≡ version_at old
   version = version_same old image (before 2048 (omega arith))
 
-  parts : part_fault (most_at image) (read_at base k statuses seen g s u scanned) ≡ None
+  parts : part_fault (most_at image) (read_at base k statuses seen tail g s u scanned) ≡ None
   parts =
-      parts_two (read_at base k statuses seen g s u scanned) image (version ∙ two)
+      parts_two (read_at base k statuses seen tail g s u scanned) image (version ∙ two)
       (four_none (twin_check o s u) (own_check most k s) (target_check base.apart most o s u)
       (no_store_check base.apart u) twins
       old_rules.1
@@ -218,23 +219,23 @@ module _
   -- the tables
 
   module _ (table : slot_table g o image ≡ Ok u) where
-    source_read : table_at size g k image ≡ Ok s
+    source_read : table_at tail.super_end g k image ≡ Ok s
     source_read =
-        let two = two_tables size g k o old (s ∷ t ∷ []) reads.tables in
+        let two = two_tables tail.super_end g k o old (s ∷ t ∷ []) reads.tables in
         let are : s ∷ t ∷ [] ≡ two.source ∷ two.target ∷ [] = two.are in
         let same : s ≡ two.source = cc in
-        table_same size g k old image
+        table_same tail.super_end g k old image
         (other_table g k o n old image rules.two below (other_below k)
         (other_not k below) fits others)
         ∙ two.source_read ∙ ap Ok (sym same)
 
-    target_read : table_at size g o image ≡ Ok u
+    target_read : table_at tail.super_end g o image ≡ Ok u
     unfolding table_at
     target_read =
-        ap (table_read size g o) table
+        ap (table_read tail.super_end g o) table
         ∙ ap (λ (b : Bool). unless b (BadTable o) (Ok u)) lies
 
-    tables : tables_in size g (k ∷ o ∷ []) image ≡ Ok (s ∷ u ∷ [])
+    tables : tables_in tail.super_end g (k ∷ o ∷ []) image ≡ Ok (s ∷ u ∷ [])
     tables = (λ i.
         source_read i >>= λ a.
         (target_read i >>= λ b. Ok (b ∷ [])) >>= λ bs.
@@ -245,7 +246,8 @@ module _
     device_same : (layout_of u).device ≡ (layout_of t).device
     device_same = device_of_layout t u edited.device
 
-    stores : scans_in (stores_of (read_at base k statuses seen g s u scanned)) image ≡ Ok scanned
+    stores : scans_in (stores_of (read_at base k statuses seen tail g s u scanned)) image
+        ≡ Ok scanned
     stores =
         ap (λ ws. scans_in ws image)
         (wanted_still base.apart o (layout_of t) (layout_of u) (written_in statuses) old scanned
@@ -256,7 +258,7 @@ module _
         ∙ reads.stores
 
     -- The disk is read as before, but for the target's table.
-    pub reads_edited : Reads size (read_at base k statuses seen g s u scanned) image
+    pub reads_edited : Reads size (read_at base k statuses seen tail g s u scanned) image
     reads_edited = record {
       enough = reads.enough;
       mark = mark_same old image (before 2048 (omega arith)) ∙ reads.mark;
@@ -264,8 +266,11 @@ module _
           statuses_kept true old image version (λ read a is. before a (omega (arith, is.below)))
           ∙ reads.statuses;
       control = control_same _ _ old image (before 4 (omega arith)) ∙ reads.control;
+      tail =
+          tail_kept base.physical size old image (λ some. before 2113 (omega arith)) ∙ reads.tail;
       geometry =
-          geometry_same size old image (before 4104 (omega arith)) (before 4112 (omega arith))
+          geometry_same tail.super_end old image (before 4104 (omega arith))
+          (before 4112 (omega arith))
           ∙ reads.geometry;
       tables = tables;
       parts = parts;
@@ -317,21 +322,23 @@ module _
       ∙ ap (plan_by o (layout_of u)) old_entries
 
   pub mounted_edited : (c : Control)
-      → mounted_on (device_at base k statuses seen g s u scanned c) image
-      ≡ installing_with (mounted_on (device_at base k statuses seen g s t scanned c) old) k
+      → mounted_on (device_at base k statuses seen tail g s u scanned c) image
+      ≡ installing_with (mounted_on (device_at base k statuses seen tail g s t scanned c) old) k
       (plan_at base.apart old (plan_of o (layout_of t) scanned))
       (layout_of u)
   mounted_edited c =
-      mounted_next base k statuses seen g s t u scanned c old image below images_a images_b entries
+      mounted_next base k statuses seen tail g s t u scanned c old image below images_a images_b
+      entries
 
   -- The disk means the device with the new table, where the boot control is whole.
   pub device_edited : (c : Control)
       → control_of (old 4) ≡ Ok c
       → slot_table g o image ≡ Ok u
-      → device size image ≡ Ok (mounted_on (device_at base k statuses seen g s u scanned c) image)
+      → device size image
+      ≡ Ok (mounted_on (device_at base k statuses seen tail g s u scanned c) image)
   device_edited c control table =
-      device_reads size (read_at base k statuses seen g s u scanned) c image (reads_edited table)
-      (ap control_of (before 4 (omega arith)) ∙ control)
+      device_reads size (read_at base k statuses seen tail g s u scanned) c image
+      (reads_edited table) (ap control_of (before 4 (omega arith)) ∙ control)
 
   -- And where both copies are written it is the device's.
   pub represents_edited : (c : Control) (text : List ℕ)
@@ -339,9 +346,9 @@ module _
       → AgreeCopies g (k ∷ o ∷ []) (s ∷ t ∷ []) old
       → IsTableText g.max text u
       → BothHold g o text image
-      → Represents (device_at base k statuses seen g s u scanned c) size image
+      → Represents (device_at base k statuses seen tail g s u scanned c) size image
   represents_edited c text control copies is held = record {
-    read = read_at base k statuses seen g s u scanned;
+    read = read_at base k statuses seen tail g s u scanned;
     reads = reads_edited (both_table g o text u image held is);
     is = refl;
     control = ap control_of (before 4 (omega arith)) ∙ control;

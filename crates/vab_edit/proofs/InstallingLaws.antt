@@ -11,6 +11,7 @@ use Rattle.vab_geometry.specs.declared.geometry.Geometry.{Geometry}
 use Rattle.vab_layout.specs.Slots.{other_slot}
 use Rattle.vab_model.specs.State.{control_seen}
 use Rattle.vab_model.proofs.SeenLaws.{seen_again}
+use Rattle.vab_physical.specs.declared.tail.Tail.{Tail}
 use Rattle.vab_device.specs.declared.fault.StartFault.{StartFault}
 use Rattle.vab_device.specs.declared.device.Device.{Device}
 use Rattle.vab_device.specs.Checks.{◌>>=◌}
@@ -33,38 +34,41 @@ abbrev pub read_at : UpdateMark
     → ℕ
     → List (Option PartStatus)
     → Control
+    → Tail
     → Geometry
     → Table
     → Table
     → List Scanned
     → Read
-read_at base k statuses c g s t scanned = record {
+read_at base k statuses c tail g s t scanned = record {
   mark = rephased marks.Installing (resloted k base);
   statuses = statuses;
   control = c;
+  tail = tail;
   geometry = g;
   tables = s ∷ t ∷ [];
   scanned = scanned;
 }
 
 -- the two tables that are read
-pub record TwoTables (size : ℕ) (g : Geometry) (a b : ℕ) (image : Image) (ts : List Table) : Type 0
+pub record TwoTables (super_end : ℕ) (g : Geometry) (a b : ℕ) (image : Image) (ts : List Table)
+    : Type 0
   where
     pub source : Table
     pub target : Table
-    pub source_read : table_at size g a image ≡ Ok source
-    pub target_read : table_at size g b image ≡ Ok target
+    pub source_read : table_at super_end g a image ≡ Ok source
+    pub target_read : table_at super_end g b image ≡ Ok target
     pub are : ts ≡ source ∷ target ∷ []
 
-pub two_tables : (size : ℕ) (g : Geometry) (a b : ℕ) (image : Image) (ts : List Table)
-    → tables_in size g (a ∷ b ∷ []) image ≡ Ok ts
-    → TwoTables size g a b image ts
-two_tables size g a b image ts is =
-    let s = bound (table_at size g a image)
-    (λ s. tables_in size g (b ∷ []) image >>= λ ts. Ok (s ∷ ts)) ts is in
-    let rest = bound (tables_in size g (b ∷ []) image) (λ ts. Ok (s.0 ∷ ts)) ts s.2 in
-    let t = bound (table_at size g b image)
-    (λ t. tables_in size g [] image >>= λ ts. Ok (t ∷ ts)) rest.0 rest.1 in
+pub two_tables : (super_end : ℕ) (g : Geometry) (a b : ℕ) (image : Image) (ts : List Table)
+    → tables_in super_end g (a ∷ b ∷ []) image ≡ Ok ts
+    → TwoTables super_end g a b image ts
+two_tables super_end g a b image ts is =
+    let s = bound (table_at super_end g a image)
+    (λ s. tables_in super_end g (b ∷ []) image >>= λ ts. Ok (s ∷ ts)) ts is in
+    let rest = bound (tables_in super_end g (b ∷ []) image) (λ ts. Ok (s.0 ∷ ts)) ts s.2 in
+    let t = bound (table_at super_end g b image)
+    (λ t. tables_in super_end g [] image >>= λ ts. Ok (t ∷ ts)) rest.0 rest.1 in
     let last : (let r : Result (List Table) StartFault = Ok (t.0 ∷ []) in r ≡ Ok rest.0) = t.2 in
     let last_is : t.0 ∷ [] ≡ rest.0 = cc in
     let whole : (let r : Result (List Table) StartFault = Ok (s.0 ∷ rest.0) in r
@@ -84,12 +88,14 @@ pub record StandsInstalling (d : Device) (size : ℕ) (image : Image) : Type 0 w
   pub slot : ℕ
   pub statuses : List (Option PartStatus)
   pub seen : Control
+  pub tail : Tail
   pub geometry : Geometry
   pub source : Table
   pub target : Table
   pub scanned : List Scanned
-  pub reads : Reads size (read_at base slot statuses seen geometry source target scanned) image
-  pub is : d ≡ record (kept (read_at base slot statuses seen geometry source target scanned)) {
+  pub reads : Reads size (read_at base slot statuses seen tail geometry source target scanned)
+      image
+  pub is : d ≡ record (kept (read_at base slot statuses seen tail geometry source target scanned)) {
     control = d.control;
   }
   pub control : control_of (image 4) ≡ Ok d.control
@@ -116,14 +122,16 @@ stands_installing d size image is installing =
     (λ i. record r { mark = marked_as i }) in
     let now = subst (StandsFor d size image) marked
     (record { reads = is.reads; is = is.is; copies = is.copies }) in
-    let two = two_tables size r.geometry r.mark.slot (other_slot r.mark.slot) image r.tables
-    now.reads.tables in
+    let two = two_tables r.tail.super_end r.geometry r.mark.slot (other_slot r.mark.slot) image
+    r.tables now.reads.tables in
     let form : record r { mark = rephased marks.Installing r.mark }
-    ≡ read_at r.mark r.mark.slot r.statuses r.control r.geometry two.source two.target r.scanned =
+    ≡ read_at r.mark r.mark.slot r.statuses r.control r.tail r.geometry two.source two.target
+    r.scanned =
     (λ i. record {
       mark = rephased marks.Installing r.mark;
       statuses = r.statuses;
       control = r.control;
+      tail = r.tail;
       geometry = r.geometry;
       tables = two.are i;
       scanned = r.scanned;
@@ -134,6 +142,7 @@ stands_installing d size image is installing =
       slot = r.mark.slot;
       statuses = r.statuses;
       seen = r.control;
+      tail = r.tail;
       geometry = r.geometry;
       source = two.source;
       target = two.target;

@@ -14,6 +14,7 @@ use Rattle.vab_tables.specs.declared.table.Table.{Table}
 use Rattle.vab_geometry.specs.declared.geometry.Geometry.{Geometry}
 use Rattle.vab_layout.specs.Layout.{layout_of}
 use Rattle.vab_layout.specs.Slots.{other_slot}
+use Rattle.vab_physical.specs.declared.tail.Tail.{Tail}
 use Rattle.vab_device.specs.declared.device.Part.{Part}
 use Rattle.vab_device.specs.declared.device.Device.{Device}
 use Rattle.vab_device.specs.Kept.{table_of_slot, is_installing, IsPhase, IsDevice}
@@ -30,8 +31,9 @@ pub record StandsUpdate (d : Device) (size : ℕ) (image : Image) (s t : Table) 
   pub statuses : List (Option PartStatus)
   pub seen : Control
   pub scanned : List Scanned
-  pub reads : Reads size (read_at d.mark d.mark.slot statuses seen d.geometry s t scanned) image
-  pub is : d ≡ device_at d.mark d.mark.slot statuses seen d.geometry s t scanned d.control
+  pub reads : Reads size (read_at d.mark d.mark.slot statuses seen d.tail d.geometry s t scanned)
+      image
+  pub is : d ≡ device_at d.mark d.mark.slot statuses seen d.tail d.geometry s t scanned d.control
   pub control : control_of (image 4) ≡ Ok d.control
   pub copies : AgreeCopies d.geometry (d.mark.slot ∷ other_slot d.mark.slot ∷ []) (s ∷ t ∷ []) image
   pub version : version_at image ≡ Two
@@ -54,20 +56,22 @@ planned_phase d size plan is planned =
     installing_phase d.mark.phase is.phase (sym is.planned ∙ ap is_some planned)
 
 source_at : (base : UpdateMark) (k : ℕ) (statuses : List (Option PartStatus)) (seen : Control)
-    (g : Geometry) (s t : Table) (scanned : List Scanned) (c : Control)
+    (tail : Tail) (g : Geometry) (s t : Table) (scanned : List Scanned) (c : Control)
     → k < 2
-    → table_of_slot (device_at base k statuses seen g s t scanned c) k ≡ Some s
-source_at base zero statuses seen g s t scanned c below = refl
-source_at base (suc zero) statuses seen g s t scanned c below = refl
-source_at base (suc (suc n)) statuses seen g s t scanned c below = absurd (omega (arith, below))
+    → table_of_slot (device_at base k statuses seen tail g s t scanned c) k ≡ Some s
+source_at base zero statuses seen tail g s t scanned c below = refl
+source_at base (suc zero) statuses seen tail g s t scanned c below = refl
+source_at base (suc (suc n)) statuses seen tail g s t scanned c below =
+    absurd (omega (arith, below))
 
 target_at : (base : UpdateMark) (k : ℕ) (statuses : List (Option PartStatus)) (seen : Control)
-    (g : Geometry) (s t : Table) (scanned : List Scanned) (c : Control)
+    (tail : Tail) (g : Geometry) (s t : Table) (scanned : List Scanned) (c : Control)
     → k < 2
-    → table_of_slot (device_at base k statuses seen g s t scanned c) (other_slot k) ≡ Some t
-target_at base zero statuses seen g s t scanned c below = refl
-target_at base (suc zero) statuses seen g s t scanned c below = refl
-target_at base (suc (suc n)) statuses seen g s t scanned c below = absurd (omega (arith, below))
+    → table_of_slot (device_at base k statuses seen tail g s t scanned c) (other_slot k) ≡ Some t
+target_at base zero statuses seen tail g s t scanned c below = refl
+target_at base (suc zero) statuses seen tail g s t scanned c below = refl
+target_at base (suc (suc n)) statuses seen tail g s t scanned c below =
+    absurd (omega (arith, below))
 
 some_same : {X : Type 0} (a b : X) → Some a ≡ Some b → a ≡ b
 some_same a b e = cc
@@ -81,42 +85,47 @@ stands_update d size image s t is has represents =
     let phase = planned_phase d size has.old_plan is has.is_planned in
     let st = stands_installing d size image represents phase in
     let slot : d.mark.slot ≡ st.slot = ap (λ (x : Device). x.mark.slot) st.is in
+    let tail : d.tail ≡ st.tail = ap (λ (x : Device). x.tail) st.is in
     let geometry : d.geometry ≡ st.geometry = ap (λ (x : Device). x.geometry) st.is in
     let below : st.slot < 2 = omega (arith, is.slot, slot) in
     let source : s ≡ st.source =
     some_same s st.source
     (sym has.source ∙ ap (λ (x : Device). table_of_slot x x.mark.slot) st.is
-    ∙ source_at st.base st.slot st.statuses st.seen st.geometry st.source st.target st.scanned
-    d.control
-    below) in
+    ∙ source_at st.base st.slot st.statuses st.seen st.tail st.geometry st.source st.target
+    st.scanned d.control below) in
     let target : t ≡ st.target =
     some_same t st.target
     (sym has.target ∙ ap (λ (x : Device). table_of_slot x (other_slot x.mark.slot)) st.is
-    ∙ target_at st.base st.slot st.statuses st.seen st.geometry st.source st.target st.scanned
-    d.control
-    below) in
+    ∙ target_at st.base st.slot st.statuses st.seen st.tail st.geometry st.source st.target
+    st.scanned d.control below) in
     let marked : d.mark ≡ rephased marks.Installing (resloted st.slot st.base) =
     ap (λ (x : Device). x.mark) st.is in
-    let all : (let x : UpdateMark × Geometry × Table × Table =
-    (rephased marks.Installing (resloted st.slot st.base), st.geometry, st.source, st.target) in
-    let y : UpdateMark × Geometry × Table × Table = (d.mark, d.geometry, s, t) in x ≡ y) =
-    (λ i. (sym marked i, sym geometry i, sym source i, sym target i)) in
+    let all : (let x : UpdateMark × Tail × Geometry × Table × Table = (
+      rephased marks.Installing (resloted st.slot st.base),
+      st.tail,
+      st.geometry,
+      st.source,
+      st.target,
+    ) in
+    let y : UpdateMark × Tail × Geometry × Table × Table =
+    (d.mark, d.tail, d.geometry, s, t) in x ≡ y) =
+    (λ i. (sym marked i, sym tail i, sym geometry i, sym source i, sym target i)) in
     record {
       statuses = st.statuses;
       seen = st.seen;
       scanned = st.scanned;
       reads = subst
-          (λ (x : UpdateMark × Geometry × Table × Table).
-          Reads size (read_at x.0 x.0.slot st.statuses st.seen x.1 x.2 x.3 st.scanned) image)
+          (λ (x : UpdateMark × Tail × Geometry × Table × Table).
+          Reads size (read_at x.0 x.0.slot st.statuses st.seen x.1 x.2 x.3 x.4 st.scanned) image)
           all st.reads;
       is = subst
-          (λ (x : UpdateMark × Geometry × Table × Table).
-          d ≡ device_at x.0 x.0.slot st.statuses st.seen x.1 x.2 x.3 st.scanned d.control)
+          (λ (x : UpdateMark × Tail × Geometry × Table × Table).
+          d ≡ device_at x.0 x.0.slot st.statuses st.seen x.1 x.2 x.3 x.4 st.scanned d.control)
           all st.is;
       control = st.control;
       copies = subst
-          (λ (x : UpdateMark × Geometry × Table × Table).
-          AgreeCopies x.1 (x.0.slot ∷ other_slot x.0.slot ∷ []) (x.2 ∷ x.3 ∷ []) image)
+          (λ (x : UpdateMark × Tail × Geometry × Table × Table).
+          AgreeCopies x.2 (x.0.slot ∷ other_slot x.0.slot ∷ []) (x.3 ∷ x.4 ∷ []) image)
           all st.copies;
       version = st.version;
     }

@@ -12,6 +12,7 @@ use Rattle.vab_marks.specs.declared.status.PartStatus.{PartStatus}
 use Rattle.vab_marks.specs.declared.mark.UpdateMark.{UpdateMark}
 use Rattle.vab_marks.specs.Mark.{mark_of, mark_spelling, rephased, resloted}
 use Rattle.vab_geometry.specs.declared.geometry.Geometry.{Geometry}
+use Rattle.vab_physical.specs.declared.tail.Tail.{Tail}
 use Rattle.vab_tables.specs.declared.table.Table.{Table}
 use Rattle.vab_layout.specs.Layout.{layout_of}
 use Rattle.vab_layout.specs.Slots.{other_slot, own_parts}
@@ -34,8 +35,8 @@ use Rattle.vab_device.proofs.Behind.{images_behind, stores_behind, plan_behind}
 use Rattle.vab_device.proofs.CheckLaws.{first_kept, check_kept}
 use Rattle.vab_device.proofs.OpeningLaws.{control_seen_in}
 use Rattle.vab_device.proofs.ReadingLaws.{control_is_seen}
-use Rattle.vab_device.proofs.SameLaws.{mark_same, control_same, geometry_same, tables_agree}
-use Rattle.vab_device.proofs.SameLaws.{images_same}
+use Rattle.vab_device.proofs.SameLaws.{mark_same, control_same, tail_kept, geometry_same}
+use Rattle.vab_device.proofs.SameLaws.{tables_agree, images_same}
 use Rattle.vab_device.proofs.StoreLaws.{statuses_kept, stores_kept, plan_kept}
 use Rattle.vab_begin.proofs.BeginLaws.{cleared_seen}
 use Rattle.vab_device.proofs.UpdateLaws.{update_read, kept_with}
@@ -75,17 +76,18 @@ runs_of (suc zero) c below passed =
 runs_of (suc (suc n)) c below passed = absurd (omega (arith, below))
 
 module _
-    (base : UpdateMark) (slot : ℕ) (ss : List (Option PartStatus)) (seen : Control) (g : Geometry)
+    (base : UpdateMark) (slot : ℕ) (ss : List (Option PartStatus)) (seen : Control)
+    (tail : Tail) (g : Geometry)
     (t u : Table)
     (scanned : List Scanned) (c : Control)
     (told : Type 0) (size : ℕ) (old mid : Image)
     (below : slot < 2)
-    (reads : Reads size (update_read (rephased marks.Installing (resloted slot base)) ss seen g t u
-    scanned) old)
+    (reads : Reads size (update_read (rephased marks.Installing (resloted slot base)) ss seen tail g
+    t u scanned) old)
     (whole : control_of (old 4) ≡ Ok c)
     (same : SameBut (IsControl told (cleared_of c (other_slot slot)) (old 4)) old mid) where
   abbrev before : Read
-  before = update_read (rephased marks.Installing (resloted slot base)) ss seen g t u scanned
+  before = update_read (rephased marks.Installing (resloted slot base)) ss seen tail g t u scanned
 
   stays : (s : ℕ) → s ≢ 4 → mid s ≡ old s
   stays s other = by_write (same s)
@@ -115,12 +117,14 @@ module _
         statuses_kept true old mid (version_same old mid (stays 2048 (λ e. omega (arith, e))))
         (λ read s is. stays s (λ e. omega (arith, e, is.from)));
     control = seen_same;
+    tail =
+        tail_kept base.physical size old mid (λ some. stays 2113 (λ e. omega (arith, e)));
     geometry =
-        geometry_same size old mid
+        geometry_same tail.super_end old mid
         (stays 4104 (λ e. omega (arith, e)))
         (stays 4112 (λ e. omega (arith, e)));
     tables =
-        tables_agree size g (slot ∷ other_slot slot ∷ []) old mid
+        tables_agree tail.super_end g (slot ∷ other_slot slot ∷ []) old mid
         (λ s is.
         stays s (λ e. omega (arith, e, copies_from g (slot ∷ other_slot slot ∷ []) s is)));
     stores =
@@ -173,7 +177,7 @@ module _
     abbrev after : Read
     after =
         update_read (rephased marks.Staged (resloted slot base)) ss (cleared_of c (other_slot slot))
-        g t u scanned
+        tail g t u scanned
 
     elsewhere : (s : ℕ) → s ≢ 4 → s ≢ 2048 → new s ≡ old s
     elsewhere s other not_mark =
@@ -228,13 +232,17 @@ module _
           elsewhere s (λ e. omega (arith, e, is.from)) (λ e. omega (arith, e, is.from)))
           ∙ reads.statuses;
       control = control_seen_in true true new (cleared_of c (other_slot slot)) control_new;
+      tail =
+          tail_kept base.physical size old new
+          (λ some. elsewhere 2113 (λ e. omega (arith, e)) (λ e. omega (arith, e)))
+          ∙ reads.tail;
       geometry =
-          geometry_same size old new
+          geometry_same tail.super_end old new
           (elsewhere 4104 (λ e. omega (arith, e)) (λ e. omega (arith, e)))
           (elsewhere 4112 (λ e. omega (arith, e)) (λ e. omega (arith, e)))
           ∙ reads.geometry;
       tables =
-          tables_agree size g (slot ∷ other_slot slot ∷ []) old new
+          tables_agree tail.super_end g (slot ∷ other_slot slot ∷ []) old new
           (table_sectors (slot ∷ other_slot slot ∷ []))
           ∙ reads.tables;
       parts = parts_under before old new (version_new ∙ sym version) reads.parts;
@@ -282,31 +290,32 @@ module _
 -- ---- what is kept
 
 pub kept_finished : (base : UpdateMark) (slot : ℕ) (ss : List (Option PartStatus)) (seen : Control)
-    (g : Geometry) (t u : Table) (scanned : List Scanned) (c : Control)
+    (tail : Tail) (g : Geometry) (t u : Table) (scanned : List Scanned) (c : Control)
     → slot < 2
     → finished_device (kept_with
-    (update_read (rephased marks.Installing (resloted slot base)) ss seen g t u scanned) c)
+    (update_read (rephased marks.Installing (resloted slot base)) ss seen tail g t u scanned) c)
     ≡ kept_with (update_read (rephased marks.Staged (resloted slot base)) ss
-    (cleared_of c (other_slot slot)) g t u scanned)
+    (cleared_of c (other_slot slot)) tail g t u scanned)
     (cleared_of c (other_slot slot))
-kept_finished base zero ss seen g t u scanned c below = refl
-kept_finished base (suc zero) ss seen g t u scanned c below = refl
-kept_finished base (suc (suc n)) ss seen g t u scanned c below = absurd (omega (arith, below))
+kept_finished base zero ss seen tail g t u scanned c below = refl
+kept_finished base (suc zero) ss seen tail g t u scanned c below = refl
+kept_finished base (suc (suc n)) ss seen tail g t u scanned c below = absurd (omega (arith, below))
 
 -- ---- what it means
 
 module _
-    (base : UpdateMark) (ss : List (Option PartStatus)) (seen : Control) (g : Geometry)
+    (base : UpdateMark) (ss : List (Option PartStatus)) (seen : Control)
+    (tail : Tail) (g : Geometry)
     (t u : Table)
     (scanned : List Scanned) (c : Control) (old new : Image) where
   abbrev was : ℕ → Device
-  was slot = kept_with (update_read (rephased marks.Installing (resloted slot base)) ss seen g t u
-      scanned) c
+  was slot = kept_with (update_read (rephased marks.Installing (resloted slot base)) ss seen tail g
+      t u scanned) c
 
   abbrev now : ℕ → Device
   now slot =
       kept_with (update_read (rephased marks.Staged (resloted slot base)) ss
-      (cleared_of c (other_slot slot)) g t u scanned)
+      (cleared_of c (other_slot slot)) tail g t u scanned)
       (cleared_of c (other_slot slot))
 
   abbrev planned : ℕ → List Part

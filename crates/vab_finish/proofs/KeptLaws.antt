@@ -52,6 +52,7 @@ finished_kept d size is installing =
     let there : is_some d.plan ≡ true = is.planned ∙ ap is_installing installing in
     record {
       enough = is.enough;
+      ends = is.ends;
       geometry = is.geometry;
       control = cleared_fits d.control (other_slot d.mark.slot) is.control;
       phase = inr (inr (inl refl));
@@ -61,8 +62,8 @@ finished_kept d size is installing =
       has_a = has_a_now d.mark.slot d.a d.plan (source_a d size is) is.slot there;
       has_b = has_b_now d.mark.slot d.b d.plan (source_b d size is) is.slot there;
       copies_on = is.copies_on;
-      parts_a = either_present d.mark.slot size d.a d.plan is.parts_a is.plan;
-      parts_b = either_present d.mark.slot size d.plan d.b is.plan is.parts_b;
+      parts_a = either_present d.mark.slot d.tail.super_end d.a d.plan is.parts_a is.plan;
+      parts_b = either_present d.mark.slot d.tail.super_end d.plan d.b is.plan is.parts_b;
       table_a = is.table_a;
       table_b = is.table_b;
       source = is.source;
@@ -72,7 +73,7 @@ finished_kept d size is installing =
       update = is.update;
       overlaid = is.overlaid ∙ not_overlaid d.mark is.flags (ap is_idle installing);
       overlay = subst
-          (IsOverlay size (parts_at (finished_device d) d.mark.slot))
+          (IsOverlay d.tail.super_end (parts_at (finished_device d) d.mark.slot))
           (sym (update_none d size is (ap is_idle installing)))
           tt;
     }

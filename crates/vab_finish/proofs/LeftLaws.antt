@@ -50,19 +50,19 @@ module _ (d : Device) (size : ℕ) (image : Image) (dev : IsDevice d size)
 
   count_bare : (ps : List PartOfLayout)
       → All Bare ps
-      → All (IsPart size) (map (planned_on (layout_of i.target) i.scanned) ps)
+      → All (IsPart d.tail.super_end) (map (planned_on (layout_of i.target) i.scanned) ps)
       → count_in (map (planned_on (layout_of i.target) i.scanned) ps) ≡ 0
   count_bare [] bare all = refl
   count_bare (p ∷ ps) bare all =
       let x : Part = planned_on (layout_of i.target) i.scanned p in
       let xs : List Part = map (planned_on (layout_of i.target) i.scanned) ps in
       let here : count_of x.image ≡ 0 =
-      bare_part size x (All-head (IsPart size) x xs all)
+      bare_part d.tail.super_end x (All-head (IsPart d.tail.super_end) x xs all)
       (no_store (layout_of i.target).device.first_logical_sector
       (first_named (store_of p.name) (layout_of i.target).parts)
       (All-head Bare p ps bare)) in
       let rest : count_in xs ≡ 0 =
-      count_bare ps (All-tail Bare p ps bare) (All-tail (IsPart size) x xs all) in
+      count_bare ps (All-tail Bare p ps bare) (All-tail (IsPart d.tail.super_end) x xs all) in
       omega (arith, here, rest)
 
   -- so a finish leaves nothing to merge
@@ -72,9 +72,9 @@ module _ (d : Device) (size : ℕ) (image : Image) (dev : IsDevice d size)
       let both : Some plan ≡ Some planned =
       sym plan_is ∙ ap (λ (k : Device). k.plan) i.is in
       let same : plan ≡ planned = cc in
-      let all : AreParts size planned =
-      subst (AreParts size) same
-      (subst (λ (o : Option (List Part)). ArePresent size o) plan_is dev.plan) in
+      let all : AreParts d.tail.super_end planned =
+      subst (AreParts d.tail.super_end) same
+      (subst (λ (o : Option (List Part)). ArePresent d.tail.super_end o) plan_is dev.plan) in
       count_planned image plan
       ∙ ap count_in same
       ∙ count_bare (own_parts (other_slot i.slot) (layout_of i.target).parts)

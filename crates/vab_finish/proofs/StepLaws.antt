@@ -13,6 +13,7 @@ use Rattle.vab_marks.specs.declared.status.PartStatus.{PartStatus}
 use Rattle.vab_marks.specs.declared.mark.UpdateMark.{UpdateMark}
 use Rattle.vab_marks.specs.Mark.{mark_of, mark_spelling, rephased, resloted}
 use Rattle.vab_geometry.specs.declared.geometry.Geometry.{Geometry}
+use Rattle.vab_physical.specs.declared.tail.Tail.{Tail}
 use Rattle.vab_tables.specs.declared.table.Table.{Table}
 use Rattle.vab_layout.specs.Layout.{layout_of}
 use Rattle.vab_layout.specs.Slots.{other_slot, own_parts, blocks_named}
@@ -62,33 +63,37 @@ installing_of d size dev ready =
 
 -- the tables are those of an update
 update_of : (base : UpdateMark) (slot : ℕ) (ss : List (Option PartStatus)) (seen : Control)
-    (g : Geometry) (t u : Table)
+    (tail : Tail) (g : Geometry) (t u : Table)
     (scanned : List Scanned) (c : Control) (size : ℕ)
     → slot < 2
     → IsDevice (kept_with
-    (update_read (rephased marks.Installing (resloted slot base)) ss seen g t u scanned) c) size
+    (update_read (rephased marks.Installing (resloted slot base)) ss seen tail g t u scanned) c)
+    size
     → AreOfUpdate base.apart slot t u
-update_of base zero ss seen g t u scanned c size below dev = dev.update
-update_of base (suc zero) ss seen g t u scanned c size below dev = dev.update
-update_of base (suc (suc n)) ss seen g t u scanned c size below dev = absurd (omega (arith, below))
+update_of base zero ss seen tail g t u scanned c size below dev = dev.update
+update_of base (suc zero) ss seen tail g t u scanned c size below dev = dev.update
+update_of base (suc (suc n)) ss seen tail g t u scanned c size below dev = absurd (omega (
+  arith,
+  below,
+))
 
 -- the source's images are those of the first table
 source_of : (base : UpdateMark) (slot : ℕ) (ss : List (Option PartStatus)) (seen : Control)
-    (g : Geometry) (t u : Table)
+    (tail : Tail) (g : Geometry) (t u : Table)
     (scanned : List Scanned) (c : Control) (image : Image) (name : List ℕ)
     → slot < 2
     → source_bytes
-    (state_on (kept_with (update_read (rephased marks.Installing (resloted slot base)) ss seen g t u
-    scanned) c) image) slot
+    (state_on (kept_with (update_read (rephased marks.Installing (resloted slot base)) ss seen tail
+    g t u scanned) c) image) slot
     (base_of name)
     ≡ bytes_at image (sectors_of (layout_of t).device.first_logical_sector
     (blocks_named (in_slot slot name) (layout_of t).parts))
 unfolding state_on
-source_of base zero ss seen g t u scanned c image name below =
+source_of base zero ss seen tail g t u scanned c image name below =
     source_named image (layout_of t).device.first_logical_sector 0 name (layout_of t).parts
-source_of base (suc zero) ss seen g t u scanned c image name below =
+source_of base (suc zero) ss seen tail g t u scanned c image name below =
     source_named image (layout_of t).device.first_logical_sector 1 name (layout_of t).parts
-source_of base (suc (suc n)) ss seen g t u scanned c image name below =
+source_of base (suc (suc n)) ss seen tail g t u scanned c image name below =
     absurd (omega (arith, below))
 
 module _ (told : Type 0) (size : ℕ) (old : Image) where
@@ -122,26 +127,27 @@ module _ (told : Type 0) (size : ℕ) (old : Image) where
       → IsNext d ready.plan (marked mid (mark_spelling (rephased marks.Staged d.mark)))
 
   module _
-      (base : UpdateMark) (slot : ℕ) (ss : List (Option PartStatus)) (seen : Control) (g : Geometry)
+      (base : UpdateMark) (slot : ℕ) (ss : List (Option PartStatus)) (seen : Control)
+      (tail : Tail) (g : Geometry)
       (t u : Table)
       (scanned : List Scanned) (c : Control) where
     abbrev was : Device
-    was = kept_with (update_read (rephased marks.Installing (resloted slot base)) ss seen g t u
+    was = kept_with (update_read (rephased marks.Installing (resloted slot base)) ss seen tail g t u
         scanned) c
 
     abbrev planned : List Part
     planned = plan_of (other_slot slot) (layout_of u) scanned
 
     dead_shape : DeadOf was
-        (update_read (rephased marks.Installing (resloted slot base)) ss seen g t u scanned)
+        (update_read (rephased marks.Installing (resloted slot base)) ss seen tail g t u scanned)
     dead_shape dev reads whole new same =
-        same_read base slot ss seen g t u scanned c told size old new dev.slot reads whole same
+        same_read base slot ss seen tail g t u scanned c told size old new dev.slot reads whole same
 
     module _
         (mid : Image)
         (dev : IsDevice was size)
-        (reads : Reads size (update_read (rephased marks.Installing (resloted slot base)) ss seen g
-        t u scanned) old)
+        (reads : Reads size (update_read (rephased marks.Installing (resloted slot base)) ss seen
+        tail g t u scanned) old)
         (whole : control_of (old 4) ≡ Ok c)
         (copies : AgreeCopies g (slot ∷ other_slot slot ∷ []) (t ∷ u ∷ []) old)
         (version : version_at old ≡ Two)
@@ -156,29 +162,29 @@ module _ (told : Type 0) (size : ℕ) (old : Image) where
       represents : Represents (finished_device was) size new
       represents = record {
         read = update_read (rephased marks.Staged (resloted slot base)) ss
-            (cleared_of c (other_slot slot)) g t u scanned;
-        reads = reads_new base slot ss seen g t u scanned c told size old mid dev.slot reads whole
-            same
+            (cleared_of c (other_slot slot)) tail g t u scanned;
+        reads = reads_new base slot ss seen tail g t u scanned c told size old mid dev.slot reads
+            whole same
             prepared copies version read ready;
-        is = kept_finished base slot ss seen g t u scanned c dev.slot;
-        control = control_new base slot ss seen g t u scanned c told size old mid dev.slot reads
-            whole
+        is = kept_finished base slot ss seen tail g t u scanned c dev.slot;
+        control = control_new base slot ss seen tail g t u scanned c told size old mid dev.slot
+            reads whole
             same prepared copies version read ready;
-        copies = copies_new base slot ss seen g t u scanned c told size old mid dev.slot reads whole
-            same prepared copies version read ready;
-        version = version_new base slot ss seen g t u scanned c told size old mid dev.slot reads
-            whole
+        copies = copies_new base slot ss seen tail g t u scanned c told size old mid dev.slot reads
+            whole same prepared copies version read ready;
+        version = version_new base slot ss seen tail g t u scanned c told size old mid dev.slot
+            reads whole
             same prepared copies version read ready;
       }
 
       final_same : map (final_image (state_on was old) slot) (map (entry_on old) planned)
           ≡ map (image_on old) planned
       final_same =
-          let update = update_of base slot ss seen g t u scanned c size dev.slot dev in
+          let update = update_of base slot ss seen tail g t u scanned c size dev.slot dev in
           final_all base.apart slot (layout_of t) (layout_of u) scanned (state_on was old) old
           dev.slot
           (ap (λ d. d.first_logical_sector) (device_same u t update.device))
-          (λ name. source_of base slot ss seen g t u scanned c old name dev.slot)
+          (λ name. source_of base slot ss seen tail g t u scanned c old name dev.slot)
           (own_parts (other_slot slot) (layout_of u).parts) update.target.each ready
 
     some_same : (x : List Part) (new : Image)
@@ -187,86 +193,91 @@ module _ (told : Type 0) (size : ℕ) (old : Image) where
     some_same x new is = cc
 
   means_shape : (base : UpdateMark) (slot : ℕ) (ss : List (Option PartStatus)) (seen : Control)
-      (g : Geometry)
+      (tail : Tail) (g : Geometry)
       (t u : Table) (scanned : List Scanned) (c : Control) (mid : Image)
-      (dev : IsDevice (was base slot ss seen g t u scanned c) size)
-      (reads : Reads size (update_read (rephased marks.Installing (resloted slot base)) ss seen g t
-      u scanned) old)
+      (dev : IsDevice (was base slot ss seen tail g t u scanned c) size)
+      (reads : Reads size (update_read (rephased marks.Installing (resloted slot base)) ss seen tail
+      g t u scanned) old)
       (whole : control_of (old 4) ≡ Ok c)
       (copies : AgreeCopies g (slot ∷ other_slot slot ∷ []) (t ∷ u ∷ []) old)
       (version : version_at old ≡ Two)
-      (same : SameBut (Writes (was base slot ss seen g t u scanned c)) old mid)
+      (same : SameBut (Writes (was base slot ss seen tail g t u scanned c)) old mid)
       (prepared : control_of (mid 4) ≡ Ok (cleared_of c (other_slot slot)))
       (read : mark_of (mark_spelling (rephased marks.Staged (resloted slot base)))
       ≡ Ok (rephased marks.Staged (resloted slot base)))
-      (ready : are_ready (planned base slot ss seen g t u scanned c) ≡ true)
-      → mounted_on (finished_device (was base slot ss seen g t u scanned c))
+      (ready : are_ready (planned base slot ss seen tail g t u scanned c) ≡ true)
+      → mounted_on (finished_device (was base slot ss seen tail g t u scanned c))
       (marked mid (mark_spelling (rephased marks.Staged (resloted slot base))))
-      ≡ finished (mounted_on (was base slot ss seen g t u scanned c) old) slot
-      (plan_on (was base slot ss seen g t u scanned c) old
-      (planned base slot ss seen g t u scanned c))
-  means_shape base zero ss seen g t u scanned c mid dev reads whole copies version same prepared
+      ≡ finished (mounted_on (was base slot ss seen tail g t u scanned c) old) slot
+      (plan_on (was base slot ss seen tail g t u scanned c) old
+      (planned base slot ss seen tail g t u scanned c))
+  means_shape base zero ss seen tail g t u scanned c mid dev reads whole copies version same
+      prepared
       read ready =
       let new = marked mid (mark_spelling (rephased marks.Staged (resloted 0 base))) in
-      let a = some_same base 0 ss seen g t u scanned c _ new
-      (images_a base 0 ss seen g t u scanned c told size old mid dev.slot reads whole same prepared
-      copies version
+      let a = some_same base 0 ss seen tail g t u scanned c _ new
+      (images_a base 0 ss seen tail g t u scanned c told size old mid dev.slot reads whole same
+      prepared copies version
       read ready) in
-      let b = some_same base 0 ss seen g t u scanned c _ new
-      (images_b base 0 ss seen g t u scanned c told size old mid dev.slot reads whole same prepared
-      copies version
+      let b = some_same base 0 ss seen tail g t u scanned c _ new
+      (images_b base 0 ss seen tail g t u scanned c told size old mid dev.slot reads whole same
+      prepared copies version
       read ready) in
-      ap (λ (k : Device). mounted_on k new) (kept_finished base 0 ss seen g t u scanned c dev.slot)
-      ∙ means_a base ss seen g t u scanned c old new a
+      ap (λ (k : Device). mounted_on k new) (kept_finished base 0 ss seen tail g t u scanned c
+      dev.slot)
+      ∙ means_a base ss seen tail g t u scanned c old new a
       (b ∙ sym
-      (final_same base 0 ss seen g t u scanned c mid dev reads whole copies version same prepared
-      read
+      (final_same base 0 ss seen tail g t u scanned c mid dev reads whole copies version same
+      prepared read
       ready))
-  means_shape base (suc zero) ss seen g t u scanned c mid dev reads whole copies version same
+  means_shape base (suc zero) ss seen tail g t u scanned c mid dev reads whole copies version same
       prepared read ready =
       let new = marked mid (mark_spelling (rephased marks.Staged (resloted 1 base))) in
-      let a = some_same base 1 ss seen g t u scanned c _ new
-      (images_a base 1 ss seen g t u scanned c told size old mid dev.slot reads whole same prepared
-      copies version
+      let a = some_same base 1 ss seen tail g t u scanned c _ new
+      (images_a base 1 ss seen tail g t u scanned c told size old mid dev.slot reads whole same
+      prepared copies version
       read ready) in
-      let b = some_same base 1 ss seen g t u scanned c _ new
-      (images_b base 1 ss seen g t u scanned c told size old mid dev.slot reads whole same prepared
-      copies version
+      let b = some_same base 1 ss seen tail g t u scanned c _ new
+      (images_b base 1 ss seen tail g t u scanned c told size old mid dev.slot reads whole same
+      prepared copies version
       read ready) in
-      ap (λ (k : Device). mounted_on k new) (kept_finished base 1 ss seen g t u scanned c dev.slot)
-      ∙ means_b base ss seen g t u scanned c old new b
+      ap (λ (k : Device). mounted_on k new) (kept_finished base 1 ss seen tail g t u scanned c
+      dev.slot)
+      ∙ means_b base ss seen tail g t u scanned c old new b
       (a ∙ sym
-      (final_same base 1 ss seen g t u scanned c mid dev reads whole copies version same prepared
-      read
+      (final_same base 1 ss seen tail g t u scanned c mid dev reads whole copies version same
+      prepared read
       ready))
-  means_shape base (suc (suc n)) ss seen g t u scanned c mid dev reads whole copies version same
+  means_shape base (suc (suc n)) ss seen tail g t u scanned c mid dev reads whole copies version
+      same
       prepared read ready = absurd (omega (arith, dev.slot))
 
   next_shape : (base : UpdateMark) (slot : ℕ) (ss : List (Option PartStatus)) (seen : Control)
-      (g : Geometry)
+      (tail : Tail) (g : Geometry)
       (t u : Table) (scanned : List Scanned) (c : Control) (mid : Image)
-      → NextOf mid (was base slot ss seen g t u scanned c)
-      (update_read (rephased marks.Installing (resloted slot base)) ss seen g t u scanned)
-  next_shape base slot ss seen g t u scanned c mid dev reads whole copies version same prepared read
+      → NextOf mid (was base slot ss seen tail g t u scanned c)
+      (update_read (rephased marks.Installing (resloted slot base)) ss seen tail g t u scanned)
+  next_shape base slot ss seen tail g t u scanned c mid dev reads whole copies version same prepared
+      read
       ready =
-      let both : Some (planned base slot ss seen g t u scanned c) ≡ Some ready.plan =
+      let both : Some (planned base slot ss seen tail g t u scanned c) ≡ Some ready.plan =
       ready.plan_is in
-      let e : planned base slot ss seen g t u scanned c ≡ ready.plan = cc in
-      let are : are_ready (planned base slot ss seen g t u scanned c) ≡ true =
+      let e : planned base slot ss seen tail g t u scanned c ≡ ready.plan = cc in
+      let are : are_ready (planned base slot ss seen tail g t u scanned c) ≡ true =
       ap are_ready e ∙ ready_of ready.plan ready.none in
       record {
         represents =
-            represents base slot ss seen g t u scanned c mid dev reads whole copies version same
-            prepared
+            represents base slot ss seen tail g t u scanned c mid dev reads whole copies version
+            same prepared
             read are;
         means =
-            means_shape base slot ss seen g t u scanned c mid dev reads whole copies version same
-            prepared read
+            means_shape base slot ss seen tail g t u scanned c mid dev reads whole copies version
+            same prepared read
             are
             ∙ ap
             (λ (ps : List Part).
-            finished (mounted_on (was base slot ss seen g t u scanned c) old) slot
-            (plan_on (was base slot ss seen g t u scanned c) old ps))
+            finished (mounted_on (was base slot ss seen tail g t u scanned c) old) slot
+            (plan_on (was base slot ss seen tail g t u scanned c) old ps))
             e;
       }
 
@@ -282,17 +293,18 @@ module _ (told : Type 0) (size : ℕ) (old : Image) where
           sym (ap (λ (k : Device). k.mark.phase) is.is) ∙ installing_of d size dev ready
 
       two : (t : Table) × (u : Table) × (r.tables ≡ t ∷ u ∷ [])
-          × (table_at size r.geometry r.mark.slot old ≡ Ok t)
+          × (table_at r.tail.super_end r.geometry r.mark.slot old ≡ Ok t)
       two =
-          two_of size r.geometry r.mark.slot (other_slot r.mark.slot) old r.tables
-          (subst (λ (p : MarkPhase). tables_in size r.geometry (phase_in p r.mark).tables old
+          two_of r.tail.super_end r.geometry r.mark.slot (other_slot r.mark.slot) old r.tables
+          (subst (λ (p : MarkPhase). tables_in r.tail.super_end r.geometry (phase_in p
+          r.mark).tables old
           ≡ Ok r.tables)
           phase is.reads.tables)
 
       abbrev shaped : Read
       shaped =
-          update_read (rephased marks.Installing r.mark) r.statuses r.control r.geometry two.0 two.1
-          r.scanned
+          update_read (rephased marks.Installing r.mark) r.statuses r.control r.tail r.geometry
+          two.0 two.1 r.scanned
 
       marked_as : r.mark ≡ rephased marks.Installing r.mark
       marked_as =
@@ -303,6 +315,7 @@ module _ (told : Type 0) (size : ℕ) (old : Image) where
         mark = marked_as i;
         statuses = r.statuses;
         control = r.control;
+        tail = r.tail;
         geometry = r.geometry;
         tables = two.2 i;
         scanned = r.scanned;
@@ -315,8 +328,8 @@ module _ (told : Type 0) (size : ℕ) (old : Image) where
       finish_dead =
           subst (λ (x : Read). DeadOf d x) (sym shape)
           (subst (λ (k : Device). DeadOf k shaped) (sym form)
-          (dead_shape r.mark r.mark.slot r.statuses r.control r.geometry two.0 two.1 r.scanned
-          d.control))
+          (dead_shape r.mark r.mark.slot r.statuses r.control r.tail r.geometry two.0 two.1
+          r.scanned d.control))
           dev is.reads is.control
 
       module _
@@ -330,8 +343,8 @@ module _ (told : Type 0) (size : ℕ) (old : Image) where
           next =
               subst (λ (y : Read). NextOf mid d y) (sym shape)
               (subst (λ (k : Device). NextOf mid k shaped) (sym form)
-              (next_shape r.mark r.mark.slot r.statuses r.control r.geometry two.0 two.1 r.scanned
-              d.control
+              (next_shape r.mark r.mark.slot r.statuses r.control r.tail r.geometry two.0 two.1
+              r.scanned d.control
               mid))
               dev is.reads is.control is.copies is.version same prepared read ready
 

@@ -24,10 +24,10 @@ use Rattle.vab_device.specs.Kept.{IsKeptTable, HasNoStores, AreOfUpdate, IsUpdat
 use Rattle.vab_device.specs.Mounted.{images_on, entries_on}
 use Rattle.vab_device.specs.Reading.{Read, kept, AgreeCopies, Dead, IsOfTables}
 use Rattle.vab_device.specs.Reading.{IsOfBlocks, IsOfImages, IsOfPlan, mark_in, control_in}
-use Rattle.vab_device.specs.Reading.{geometry_at, tables_in, stores_of, table_for}
+use Rattle.vab_device.specs.Reading.{tail_at, geometry_at, tables_in, stores_of, table_for}
 use Rattle.vab_device.specs.Stores.{scans_in, scanned_named}
 use Rattle.vab_device.proofs.SameLaws.{mark_same, control_same, geometry_same, tables_agree}
-use Rattle.vab_device.proofs.SameLaws.{images_same}
+use Rattle.vab_device.proofs.SameLaws.{tail_kept, images_same}
 use Rattle.vab_device.proofs.StoreLaws.{statuses_kept, stores_kept, plan_kept}
 use Rattle.vab_device.proofs.Behind.{images_behind, stores_behind, plan_behind}
 use Rattle.vab_device.proofs.InStores.{in_stores}
@@ -44,14 +44,14 @@ use Rattle.vab_device.proofs.SameLaws.{version_same, most_same}
 abbrev tables_of : ℕ → Table → Table → List Table → ℕ → Option Table
 tables_of slot s t others k = table_for k (slot ∷ other_slot slot ∷ []) (s ∷ t ∷ others)
 
-target_of : (size slot : ℕ) (g : Geometry) (s t : Table) (others : List Table)
+target_of : (super_end slot : ℕ) (g : Geometry) (s t : Table) (others : List Table)
     → slot < 2
-    → IsKeptTable size g 0 (tables_of slot s t others 0)
-    → IsKeptTable size g 1 (tables_of slot s t others 1)
-    → IsTableOf size g (other_slot slot) t
-target_of size zero g s t others below a b = b
-target_of size (suc zero) g s t others below a b = a
-target_of size (suc (suc n)) g s t others below a b = absurd (omega (arith, below))
+    → IsKeptTable super_end g 0 (tables_of slot s t others 0)
+    → IsKeptTable super_end g 1 (tables_of slot s t others 1)
+    → IsTableOf super_end g (other_slot slot) t
+target_of super_end zero g s t others below a b = b
+target_of super_end (suc zero) g s t others below a b = a
+target_of super_end (suc (suc n)) g s t others below a b = absurd (omega (arith, below))
 
 pub update_of : (apart : Bool) (slot : ℕ) (s t : Table) (others : List Table)
     → slot < 2
@@ -67,7 +67,7 @@ update_of apart (suc (suc n)) s t others below is = absurd (omega (arith, below)
 pub record Tables (d : Device) (size : ℕ) (image : Image) (i : Installs d size image) : Type 0 where
   pub below : i.slot < 2
   pub geometry : IsGeometry i.geometry
-  pub table : IsTableOf size i.geometry (other_slot i.slot) i.target
+  pub table : IsTableOf i.tail.super_end i.geometry (other_slot i.slot) i.target
   pub target : IsTargetBeside (other_slot i.slot)
       (twins_by i.base.apart (layout_of i.source).parts)
       (layout_of i.source).parts
@@ -82,16 +82,16 @@ pub tables_kept : (d : Device) (size : ℕ) (image : Image) (i : Installs d size
 unfolding layout_of
 tables_kept d size image i is =
     let r : Read =
-    installing_read i.base i.slot i.statuses i.seen i.geometry i.source i.target i.others
-    i.scanned in
+    installing_read i.base i.slot i.statuses i.seen i.tail i.geometry i.source i.target
+    i.others i.scanned in
     let form : Device = record (kept r) { control = d.control } in
     let of : IsDevice form size = subst (λ (k : Device). IsDevice k size) i.is is in
     let update = update_of i.base.apart i.slot i.source i.target i.others of.slot of.update in
     record {
       below = of.slot;
       geometry = of.geometry;
-      table = target_of size i.slot i.geometry i.source i.target i.others of.slot of.table_a
-          of.table_b;
+      table = target_of i.tail.super_end i.slot i.geometry i.source i.target i.others of.slot
+          of.table_a of.table_b;
       target = update.target;
       no_stores = update.no_stores;
       begins = ap (λ (ds : List BlockDevice). (first_device ds).first_logical_sector) update.device;
@@ -173,8 +173,8 @@ module _
 
   abbrev pub read : Read
   read =
-      installing_read i.base i.slot i.statuses i.seen i.geometry i.source i.target i.others
-      i.scanned
+      installing_read i.base i.slot i.statuses i.seen i.tail i.geometry i.source i.target
+      i.others i.scanned
 
   -- a sector of these blocks
   abbrev pub InThese : ℕ → Type 0
@@ -234,16 +234,20 @@ module _
     pub control_sector : new 4 ≡ old 4
     control_sector = low 4 (inl (omega arith)) (omega arith)
 
-    pub geometry_stays : geometry_at size new ≡ geometry_at size old
+    pub tail_stays : tail_at i.base.physical size new ≡ tail_at i.base.physical size old
+    tail_stays =
+        tail_kept i.base.physical size old new (λ some. low 2113 (inr (omega arith)) (omega arith))
+
+    pub geometry_stays : geometry_at i.tail.super_end new ≡ geometry_at i.tail.super_end old
     geometry_stays =
-        geometry_same size old new
+        geometry_same i.tail.super_end old new
         (low 4104 (inr (omega arith)) (omega arith))
         (low 4112 (inr (omega arith)) (omega arith))
 
-    pub tables_stay : tables_in size i.geometry (i.slot ∷ other_slot i.slot ∷ []) new
-        ≡ tables_in size i.geometry (i.slot ∷ other_slot i.slot ∷ []) old
+    pub tables_stay : tables_in i.tail.super_end i.geometry (i.slot ∷ other_slot i.slot ∷ []) new
+        ≡ tables_in i.tail.super_end i.geometry (i.slot ∷ other_slot i.slot ∷ []) old
     tables_stay =
-        tables_agree size i.geometry (i.slot ∷ other_slot i.slot ∷ []) old new copies
+        tables_agree i.tail.super_end i.geometry (i.slot ∷ other_slot i.slot ∷ []) old new copies
 
     pub copies_agree : AgreeCopies i.geometry (i.slot ∷ other_slot i.slot ∷ [])
         (i.source ∷ i.target ∷ i.others) new
@@ -306,6 +310,7 @@ module _
             (λ reads s is.
             ⊎_elim (λ same. same) (λ w. absurd (not_low s (omega (arith, is.below)) w)) (but s));
         control = control_stays new stay _ _;
+        tail = tail_stays new stay;
         geometry = geometry_stays new stay;
         tables = tables_stay new stay;
         stores = stores_stay new stay;

@@ -31,12 +31,21 @@ among_on : (size : ℕ) (base : List ℕ) (o : Option (List Part))
 among_on size base None is = none_on size
 among_on size base (Some ps) is = named_on size base ps is.each
 
+-- what ends in front of a sector of the disk is on the disk
+all_on : (low high : ℕ) (blocks : List ℕ)
+    → low ≤ high
+    → All (λ s. s + 8 ≤ low) blocks
+    → All (λ s. s + 8 ≤ high) blocks
+all_on low high blocks le all i d below = omega (arith, all i d below, le)
+
 pub base_all : (d : Device) (size place : ℕ)
     → IsDevice d size
     → All (λ s. s + 8 ≤ size) (base_of_place d place)
 base_all d size place is = elim (cases_Bool (d.mark.slot == 0)) [
-  | inl a ↦ rw a (among_on size (planned_at d place).name d.a is.parts_a)
-  | inr b ↦ rw b (among_on size (planned_at d place).name d.b is.parts_b)
+  | inl a ↦ rw a (all_on d.tail.super_end size _ is.ends
+      (among_on d.tail.super_end (planned_at d place).name d.a is.parts_a))
+  | inr b ↦ rw b (all_on d.tail.super_end size _ is.ends
+      (among_on d.tail.super_end (planned_at d place).name d.b is.parts_b))
 ]
 
 pub base_on_disk : (d : Device) (size place : ℕ)

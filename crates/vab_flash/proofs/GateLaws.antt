@@ -46,7 +46,8 @@ use Rattle.vab_flash.proofs.JoinLaws.{IsJoined, status_joins, ScansBoth, scans_a
 use Rattle.vab_flash.proofs.JoinLaws.{scans_together}
 use Rattle.vab_flash.proofs.JoinLaws.{others_kept, new_found}
 use Rattle.vab_flash.proofs.InstallingLaws.{Installs, installing_read, parts_same}
-use Rattle.vab_flash.proofs.DeadLaws.{mark_stays, control_stays, control_sector, geometry_stays}
+use Rattle.vab_flash.proofs.DeadLaws.{mark_stays, control_stays, control_sector, tail_stays}
+use Rattle.vab_flash.proofs.DeadLaws.{geometry_stays}
 use Rattle.vab_flash.proofs.DeadLaws.{tables_stay, copies_agree, stores_stay}
 use Rattle.vab_flash.proofs.DeadLaws.{plan_sectors, images_a_stay, images_b_stay}
 use Rattle.vab_device.proofs.NamedParts.{set_one}
@@ -82,8 +83,8 @@ module _
     (scan_one : scan_at w new ≡ Ok (record { name = name; chunk = chunk; exceptions = es })) where
   abbrev read_was : Read
   read_was =
-      installing_read i.base i.slot i.statuses i.seen i.geometry i.source i.target i.others
-      i.scanned
+      installing_read i.base i.slot i.statuses i.seen i.tail i.geometry i.source i.target
+      i.others i.scanned
 
   abbrev layout : Layout
   layout = layout_of i.target
@@ -152,8 +153,8 @@ module _
 
   abbrev read_with : List Scanned → Read
   read_with ss =
-      installing_read i.base i.slot (with_status i.statuses free status) i.seen i.geometry i.source
-      i.target i.others ss
+      installing_read i.base i.slot (with_status i.statuses free status) i.seen i.tail
+      i.geometry i.source i.target i.others ss
 
   abbrev form : Device
   form = record (kept (read_with scanned_then)) { control = d.control }
@@ -178,6 +179,7 @@ module _
     slot = i.slot;
     statuses = with_status i.statuses free status;
     seen = i.seen;
+    tail = i.tail;
     geometry = i.geometry;
     source = i.source;
     target = i.target;
@@ -192,6 +194,8 @@ module _
       control =
           control_stays d size old i device name blocks belong unread new same _ _
           ∙ i.reads.control;
+      tail =
+          tail_stays d size old i device name blocks belong unread new same ∙ i.reads.tail;
       geometry =
           geometry_stays d size old i device name blocks belong unread new same
           ∙ i.reads.geometry;

@@ -145,16 +145,19 @@ pub written_kept : (d : Device) (size : ℕ) (name : List ℕ) (staged : Option 
     (to : Destination) (bytes : List ℕ) (chunk : Chunk) (es : List Exception)
     → IsDevice d size
     → IsChosen d name staged place to bytes
-    → IsStored size (planned_at d place).map (planned_at d place).store (Written chunk es)
+    → IsStored d.tail.super_end (planned_at d place).map (planned_at d place).store
+    (Written chunk es)
     → IsDevice (with_written d place chunk es) size
 written_kept d size name staged place to bytes chunk es is chosen stored_is =
     let plan_is = chosen.has.plan_is in
     let whole : plan_or d.plan ≡ chosen.has.plan = ap plan_or plan_is in
-    let all : AreParts size (plan_or d.plan) =
-    subst (AreParts size) (sym whole)
-    (subst (λ (o : Option (List Part)). ArePresent size o) plan_is is.plan) in
-    let old : IsPart size (planned_at d place) = planned_kept d size place is chosen.within in
-    let one : IsPart size (record (planned_at d place) { image = Written chunk es }) = record {
+    let all : AreParts d.tail.super_end (plan_or d.plan) =
+    subst (AreParts d.tail.super_end) (sym whole)
+    (subst (λ (o : Option (List Part)). ArePresent d.tail.super_end o) plan_is is.plan) in
+    let old : IsPart d.tail.super_end (planned_at d place) =
+    planned_kept d size place is chosen.within in
+    let one : IsPart d.tail.super_end
+    (record (planned_at d place) { image = Written chunk es }) = record {
       name = old.name;
       on_disk = old.on_disk;
       once = old.once;
@@ -163,6 +166,7 @@ written_kept d size name staged place to bytes chunk es is chosen stored_is =
     } in
     record {
       enough = is.enough;
+      ends = is.ends;
       geometry = is.geometry;
       control = is.control;
       phase = is.phase;
@@ -180,7 +184,7 @@ written_kept d size name staged place to bytes chunk es is chosen stored_is =
       target = is.target;
       planned = ap (λ (o : Option (List Part)). is_some o) (sym plan_is) ∙ is.planned;
       plan = record {
-        each = all_set (IsPart size) (plan_or d.plan) place
+        each = all_set (IsPart d.tail.super_end) (plan_or d.plan) place
             (record (planned_at d place) { image = Written chunk es }) all.each one;
         few = omega (
           arith,
@@ -204,9 +208,11 @@ pub kept_stored : (d : Device) (size : ℕ) (name : List ℕ) (staged : Option (
 kept_stored d size name staged place bytes chunk es is chosen fits =
     let there = of_store d.mark.apart (planned_at d place).store chosen.fits.goes in
     written_kept d size name staged place Store bytes chunk es is chosen
-    (subst (λ (o : Option (List ℕ)). IsStored size (planned_at d place).map o (Written chunk es))
+    (subst
+    (λ (o : Option (List ℕ)).
+    IsStored d.tail.super_end (planned_at d place).map o (Written chunk es))
     (sym there) (
-      store_kept size (planned_at d place) (store_at d place)
+      store_kept d.tail.super_end (planned_at d place) (store_at d place)
           (planned_kept d size place is chosen.within) there,
       fits,
     ))
@@ -220,7 +226,9 @@ pub kept_placed : (d : Device) (size : ℕ) (name : List ℕ) (staged : Option (
 kept_placed d size name staged place bytes is chosen =
     let none = (of_blocks d.mark.apart (planned_at d place).store chosen.fits.goes).0 in
     written_kept d size name staged place Blocks bytes One [] is chosen
-    (subst (λ (o : Option (List ℕ)). IsStored size (planned_at d place).map o (Written One []))
+    (subst
+    (λ (o : Option (List ℕ)).
+    IsStored d.tail.super_end (planned_at d place).map o (Written One []))
     (sym none) refl)
 
 -- ---- what is written

@@ -104,8 +104,8 @@ module _ (d : Device) (size : ℕ) (old : Image) (device_is : IsDevice d size)
       let wide : SameBut (InSectors (IsOfBlocks (sectors_of at p.part.blocks))) old image =
       λ s. ⊎_elim (λ same. inl same) (λ w. inr (in_own s w)) (but s) in
       device_same size
-      (installing_read i.base i.slot i.statuses i.seen i.geometry i.source i.target i.others
-      i.scanned)
+      (installing_read i.base i.slot i.statuses i.seen i.tail i.geometry i.source i.target
+      i.others i.scanned)
       old
       image i.reads
       (these_dead d size old i device_is name p.part.blocks belong p.unread image wide)

@@ -9,6 +9,7 @@ use Rattle.vab_marks.specs.declared.mark.MarkPhase.{MarkPhase}
 use Rattle.vab_marks.specs.declared.mark.MarkPhase.TheVariants as marks
 use Rattle.vab_marks.specs.declared.status.PartStatus.{PartStatus}
 use Rattle.vab_geometry.specs.declared.geometry.Geometry.{Geometry}
+use Rattle.vab_physical.specs.declared.tail.Tail.{Tail}
 use Rattle.vab_tables.specs.declared.table.Table.{Table}
 use Rattle.vab_device.specs.declared.device.Part.{Part}
 use Rattle.vab_device.specs.declared.device.Device.{Device}
@@ -31,16 +32,18 @@ abbrev pub installing_read : UpdateMark
     → ℕ
     → List (Option PartStatus)
     → Control
+    → Tail
     → Geometry
     → Table
     → Table
     → List Table
     → List Scanned
     → Read
-installing_read base slot statuses control geometry s t others scanned = record {
+installing_read base slot statuses control tail geometry s t others scanned = record {
   mark = rephased marks.Installing (resloted slot base);
   statuses = statuses;
   control = control;
+  tail = tail;
   geometry = geometry;
   tables = s ∷ t ∷ others;
   scanned = scanned;
@@ -52,16 +55,17 @@ pub record Installs (d : Device) (size : ℕ) (image : Image) : Type 0 where
   pub slot : ℕ
   pub statuses : List (Option PartStatus)
   pub seen : Control
+  pub tail : Tail
   pub geometry : Geometry
   pub source : Table
   pub target : Table
   pub others : List Table
   pub scanned : List Scanned
   pub reads : Reads size
-      (installing_read base slot statuses seen geometry source target others scanned) image
+      (installing_read base slot statuses seen tail geometry source target others scanned) image
   pub is : d
       ≡ record
-      (kept (installing_read base slot statuses seen geometry source target others scanned)) {
+      (kept (installing_read base slot statuses seen tail geometry source target others scanned)) {
         control = d.control;
       }
   pub control : control_of (image 4) ≡ Ok d.control
@@ -73,8 +77,8 @@ pub installs_represents : (d : Device) (size : ℕ) (image : Image)
     → Represents d size image
 installs_represents d size image i = record {
   read =
-      installing_read i.base i.slot i.statuses i.seen i.geometry i.source i.target i.others
-      i.scanned;
+      installing_read i.base i.slot i.statuses i.seen i.tail i.geometry i.source i.target
+      i.others i.scanned;
   reads = i.reads;
   is = i.is;
   control = i.control;
@@ -132,14 +136,15 @@ installs_of d size image plan is planned =
     planning r.mark.phase r.mark r.tables r.scanned plan
     (sym (ap (λ (k : Device). k.plan) is.is) ∙ planned) in
     let form : Read =
-    installing_read r.mark r.mark.slot r.statuses r.control r.geometry p.source p.target p.others
-    r.scanned in
+    installing_read r.mark r.mark.slot r.statuses r.control r.tail r.geometry p.source p.target
+    p.others r.scanned in
     let marked = as_installing r.mark (flags_known image r.mark is.reads.mark) p.installing in
     let e : r ≡ form =
     (λ i. record {
       mark = marked i;
       statuses = r.statuses;
       control = r.control;
+      tail = r.tail;
       geometry = r.geometry;
       tables = p.tables i;
       scanned = r.scanned;
@@ -149,6 +154,7 @@ installs_of d size image plan is planned =
       slot = r.mark.slot;
       statuses = r.statuses;
       seen = r.control;
+      tail = r.tail;
       geometry = r.geometry;
       source = p.source;
       target = p.target;

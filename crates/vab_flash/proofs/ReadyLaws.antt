@@ -69,15 +69,16 @@ use Rattle.vab_flash.proofs.SourceLaws.{behind_end}
 pub planned_kept : (d : Device) (size place : ℕ)
     → IsDevice d size
     → place < length (plan_or d.plan)
-    → IsPart size (planned_at d place)
+    → IsPart d.tail.super_end (planned_at d place)
 planned_kept d size place is below = of_plan d.plan is.plan below
   where
     of_plan : (o : Option (List Part))
-        → ArePresent size o
+        → ArePresent d.tail.super_end o
         → place < length (plan_or o)
-        → IsPart size (get_or (plan_or o) place no_planned)
+        → IsPart d.tail.super_end (get_or (plan_or o) place no_planned)
     of_plan None all below = absurd (omega (arith, below))
-    of_plan (Some plan) all below = All-get_or (IsPart size) plan place no_planned below all.each
+    of_plan (Some plan) all below = All-get_or (IsPart d.tail.super_end) plan place no_planned below
+        all.each
 
 pub store_kept : (size : ℕ) (p : Part) (store : List ℕ)
     → IsPart size p
@@ -168,8 +169,8 @@ module _ (d : Device) (size : ℕ) (old : Image) (device_is : IsDevice d size)
 
   pub apart : IsApart (store_at d place)
   apart =
-      let s : IsStore size (planned_at d place).map (store_at d place) =
-      store_kept size (planned_at d place) (store_at d place)
+      let s : IsStore d.tail.super_end (planned_at d place).map (store_at d place) =
+      store_kept d.tail.super_end (planned_at d place) (store_at d place)
       (planned_kept d size place device_is chosen.within) store_is in
       subst IsApart k.store_is
       (sectors_once at k.keeps.blocks
@@ -223,8 +224,8 @@ module _ (d : Device) (size : ℕ) (old : Image) (device_is : IsDevice d size)
       (first_in (store_at d place) n s fits w)))
       (but s) in
       device_same size
-      (installing_read i.base i.slot i.statuses i.seen i.geometry i.source i.target i.others
-      i.scanned)
+      (installing_read i.base i.slot i.statuses i.seen i.tail i.geometry i.source i.target
+      i.others i.scanned)
       old
       image i.reads
       (these_dead d size old i device_is name k.keeps.blocks belong p.unread image wide)

@@ -36,6 +36,7 @@ abbrev pub place_of : StartFault → Place
 place_of (faults.TooSmall need have) = places.Size
 place_of (faults.BadMark sector) = if sector == 2048 then places.Mark else places.Statuses
 place_of (faults.BadControl fault) = places.Control
+place_of faults.BadPhysical = places.Geometry
 place_of faults.BadGeometry = places.Geometry
 place_of (faults.BadTable slot) = places.Tables
 place_of (faults.BadPartition name) = places.Partitions

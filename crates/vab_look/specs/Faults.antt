@@ -68,6 +68,8 @@ fault_words (faults.TooSmall need have) =
 fault_words (faults.BadMark sector) = mark_words sector
 fault_words (faults.BadControl fault) =
     codes "sector 4 is no boot control: " ++ control_word fault
+fault_words faults.BadPhysical =
+    codes "sector 2113 holds no sizes of physical partitions, or they pass the disk"
 fault_words faults.BadGeometry = codes "no copy of the geometry passes, or super is too small"
 fault_words (faults.BadTable slot) = codes "slot " ++ slot_letter slot ++ codes " has no good table"
 fault_words (faults.BadPartition name) = codes "partition " ++ name ++ codes " breaks a rule"

@@ -146,6 +146,10 @@ pub(crate) fn put_fault(fault: &StartFault, out: &mut Line)
             put(b"sector 4 is no boot control: ", out);
             put(control_word(*fault), out)
         }
+        StartFault::BadPhysical => put(
+            b"sector 2113 holds no sizes of physical partitions, or they pass the disk",
+            out,
+        ),
         StartFault::BadGeometry => {
             put(
                 b"no copy of the geometry passes, or super is too small",

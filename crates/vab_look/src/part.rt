@@ -26,6 +26,7 @@ fn place_of(fault: &StartFault) -> Place
             }
         }
         StartFault::BadControl(_) => Place::Control,
+        StartFault::BadPhysical => Place::Geometry,
         StartFault::BadGeometry => Place::Geometry,
         StartFault::BadTable(_) => Place::Tables,
         StartFault::BadPartition(_) => Place::Partitions,

@@ -116,9 +116,11 @@ module _
 
   long : (p : Part) → Contains own p → blocks_in (pic p).bytes ≡ length p.blocks
   long p c =
-      let on = (All-contains (IsPart size) (parts_of source h.l) (part_on at p) h.parts.each
+      let on = (All-contains (IsPart h.super_end) (parts_of source h.l) (part_on at p) h.parts.each
       (in_map (part_on at) own p c)).on_disk in
-      let bytes = blocks_long size image (sectors_of at p.blocks) whole on in
+      let inside : HasWholeSectors h.super_end image =
+      λ s below. whole s (omega (arith, below, h.ends)) in
+      let bytes = blocks_long h.super_end image (sectors_of at p.blocks) inside on in
       omega (arith, bytes, length-sectors_of at p.blocks)
 
   of_source : (p : Part) → Contains own p → is_of_slot source p.name ≡ true

@@ -196,11 +196,16 @@ module _ (size : ℕ) where
 
 pub devices_small : DevicesAreSmall
 unfolding state_on
-devices_small size image d small whole is = record {
-  a = slot_small size image whole d.a is.parts_a;
-  b = slot_small size image whole d.b is.parts_b;
-  physical = record { few = omega arith; each = All-nil (λ (p : Physical). p.blocks ≤ 2 ^ 28) };
-  phase =
-      phase_small size image whole small d.mark (count_at d.a + count_at d.b) d.plan is.plan;
-  overlay = overlay_small size image whole small (parts_at d d.mark.slot) d.overlay is.overlay;
-}
+devices_small size image d small whole is =
+    let last : ℕ = d.tail.super_end in
+    let inside : HasWholeSectors last image =
+    λ s below. whole s (omega (arith, below, is.ends)) in
+    let low : last ≤ 2 ^ 55 = omega (arith, small, is.ends) in
+    record {
+      a = slot_small last image inside d.a is.parts_a;
+      b = slot_small last image inside d.b is.parts_b;
+      physical = record { few = omega arith; each = All-nil (λ (p : Physical). p.blocks ≤ 2 ^ 28) };
+      phase =
+          phase_small last image inside low d.mark (count_at d.a + count_at d.b) d.plan is.plan;
+      overlay = overlay_small last image inside low (parts_at d d.mark.slot) d.overlay is.overlay;
+    }

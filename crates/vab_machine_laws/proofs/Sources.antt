@@ -41,13 +41,15 @@ use Rattle.vab_device.proofs.MarkLaws.{as_phase}
 use Rattle.vab_device.proofs.ReadingLaws.{device_was, slot_below, flags_known}
 use Rattle.vab_device.proofs.StayLaws.{one_of}
 use Rattle.vab_edit.proofs.InstallingLaws.{read_at, two_tables}
+use Rattle.vab_physical.specs.declared.tail.Tail.{Tail}
 use Rattle.vab_targets.specs.Sectors.{HasWholeSectors}
+use Rattle.vab_targets.proofs.EndLaws.{EndsOn, tail_ends, whole_super}
 use Rattle.vab_targets.proofs.Sectors.{table_rules, IsRead}
 use Rattle.vab_targets.proofs.Installed.{IsReadAs, none_named, installing_of}
 use Rattle.vab_targets.proofs.PlainIdle.{plain_idle}
 
 -- The slot of the update mark: its table, whose partitions have the slot's images, and the blocks
--- of the device.
+-- of the device; and where `super` ends.
 pub record HasSource (size : ℕ) (image : Image) (m : Mounted) (slot : ℕ) : Type 0 where
   pub l : Layout
   pub below : slot < 2
@@ -56,7 +58,9 @@ pub record HasSource (size : ℕ) (image : Image) (m : Mounted) (slot : ℕ) : T
   pub images : images_at m.state slot ≡ Some pictures
   pub are : pictures ≡ map (image_on image) (parts_of slot l)
   pub cap : m.state.cap ≡ cap_of l.device
-  pub parts : AreParts size (parts_of slot l)
+  pub super_end : ℕ
+  pub ends : super_end ≤ size
+  pub parts : AreParts super_end (parts_of slot l)
 
 -- ---- without an update and an overlay
 
@@ -64,14 +68,16 @@ abbrev idle_at : UpdateMark
     → ℕ
     → List (Option PartStatus)
     → Control
+    → Tail
     → Geometry
     → Table
     → List Scanned
     → Read
-idle_at base slot statuses c g t scanned = record {
+idle_at base slot statuses c tail g t scanned = record {
   mark = rephased marks.Idle (resloted slot base);
   statuses = statuses;
   control = c;
+  tail = tail;
   geometry = g;
   tables = t ∷ [];
   scanned = scanned;
@@ -89,23 +95,27 @@ overlay_said r image = refl
 
 module _
     (size : ℕ) (image : Image) (base : UpdateMark) (slot : ℕ)
-    (statuses : List (Option PartStatus)) (c : Control) (g : Geometry) (t : Table)
-    (ss : List Scanned)
+    (statuses : List (Option PartStatus)) (c : Control) (tail : Tail) (g : Geometry)
+    (t : Table) (ss : List Scanned)
     (whole : HasWholeSectors size image)
-    (reads : Reads size (idle_at base slot statuses c g t ss) image)
-    (table : table_at size g slot image ≡ Ok t) where
+    (reads : Reads size (idle_at base slot statuses c tail g t ss) image)
+    (table : table_at tail.super_end g slot image ≡ Ok t) where
   abbrev r : Read
-  r = idle_at base slot statuses c g t ss
+  r = idle_at base slot statuses c tail g t ss
 
   lower : slot < 2
   lower = slot_below image r.mark reads.mark
 
-  enough : 4120 ≤ size
-  enough = leb-true 4120 size reads.enough
+  ending : EndsOn size tail
+  ending =
+      tail_ends base.physical size image tail (leb-true 4120 size reads.enough) reads.tail
+
+  inside : HasWholeSectors tail.super_end image
+  inside = whole_super size image tail ending.1 whole
 
   from_at : (k : ℕ)
       → k < 2
-      → layout_at (mounted_on (kept (idle_at base k statuses c g t ss)) image).places k
+      → layout_at (mounted_on (kept (idle_at base k statuses c tail g t ss)) image).places k
       ≡ Some (plain k (layout_of t))
   from_at zero lt = refl
   from_at (suc zero) lt = refl
@@ -113,7 +123,7 @@ module _
 
   images_are : (k : ℕ)
       → k < 2
-      → images_at (mounted_on (kept (idle_at base k statuses c g t ss)) image).state k
+      → images_at (mounted_on (kept (idle_at base k statuses c tail g t ss)) image).state k
       ≡ Some (map (image_on image) (parts_of k (layout_of t)))
   unfolding state_on
   images_are zero lt = refl
@@ -124,15 +134,16 @@ module _
   unfolding state_on
   cap_is = refl
 
-  idle_parts : AreParts size (parts_of slot (layout_of t))
+  idle_parts : AreParts tail.super_end (parts_of slot (layout_of t))
   idle_parts =
       let own : IsOwn slot (layout_of t).parts =
       own_kept most_partitions slot (layout_of t).parts (omega arith)
       (none_named _
       (first_kept (own_check most_partitions slot t) [] (parts_all r image reads.parts)).0) in
-      let read : IsRead size g t =
-      table_rules size image g slot t whole enough lower reads.geometry table in
-      parts_kept size slot g (layout_of t) enough (layout_keeps t read.rules) own read.lies
+      let read : IsRead tail.super_end g t =
+      table_rules tail.super_end image g slot t inside ending.0 lower reads.geometry table in
+      parts_kept tail.super_end slot g (layout_of t) ending.0 (layout_keeps t read.rules) own
+      read.lies
 
   -- the slot of the mark is current
   pub current_on : (mounted_on (kept r) image).state.control.current ≡ slot
@@ -152,6 +163,8 @@ module _
     images = images_are slot lower;
     are = refl;
     cap = cap_is;
+    super_end = tail.super_end;
+    ends = ending.1;
     parts = idle_parts;
   }
 
@@ -170,31 +183,34 @@ has_idle size image m whole is phase none =
     let marked : r ≡ record r { mark = rephased marks.Idle r.mark } =
     (λ i. record r { mark = is_marked i }) in
     let now = subst (IsReadAs size image m) marked (record { reads = was.reads; is = was.is }) in
-    let one = one_of size r.geometry r.mark.slot image r.tables now.reads.tables in
+    let one = one_of r.tail.super_end r.geometry r.mark.slot image r.tables now.reads.tables in
     let form : record r { mark = rephased marks.Idle r.mark }
-    ≡ idle_at r.mark r.mark.slot r.statuses r.control r.geometry one.0 r.scanned =
+    ≡ idle_at r.mark r.mark.slot r.statuses r.control r.tail r.geometry one.0 r.scanned =
     (λ i. record {
       mark = rephased marks.Idle r.mark;
       statuses = r.statuses;
       control = r.control;
+      tail = r.tail;
       geometry = r.geometry;
       tables = one.1 i;
       scanned = r.scanned;
     }) in
     let read = subst (IsReadAs size image m) form now in
-    let there = idle_source size image r.mark r.mark.slot r.statuses r.control r.geometry one.0
+    let there = idle_source size image r.mark r.mark.slot r.statuses r.control r.tail r.geometry
+    one.0
     r.scanned
     whole read.reads one.2 in
-    let current = current_on size image r.mark r.mark.slot r.statuses r.control r.geometry one.0
+    let current = current_on size image r.mark r.mark.slot r.statuses r.control r.tail r.geometry
+    one.0
     r.scanned
     whole read.reads one.2 in
     let at : HasSource size image (mounted_on (kept
-    (idle_at r.mark r.mark.slot r.statuses r.control r.geometry one.0 r.scanned)) image)
+    (idle_at r.mark r.mark.slot r.statuses r.control r.tail r.geometry one.0 r.scanned)) image)
     (mounted_on (kept
-    (idle_at r.mark r.mark.slot r.statuses r.control r.geometry one.0 r.scanned))
+    (idle_at r.mark r.mark.slot r.statuses r.control r.tail r.geometry one.0 r.scanned))
     image).state.control.current =
     subst (HasSource size image (mounted_on (kept
-    (idle_at r.mark r.mark.slot r.statuses r.control r.geometry one.0 r.scanned)) image))
+    (idle_at r.mark r.mark.slot r.statuses r.control r.tail r.geometry one.0 r.scanned)) image))
     (sym current)
     there in
     subst (λ (x : Mounted). HasSource size image x x.state.control.current) (sym read.is) at
@@ -203,31 +219,36 @@ has_idle size image m whole is phase none =
 
 -- the mark's slot is the source
 source_of : (base : UpdateMark) (k : ℕ) (statuses : List (Option PartStatus)) (seen : Control)
-    (g : Geometry) (s t : Table) (ss : List Scanned) (image : Image) (source : ℕ) (plan : Plan)
-    → (mounted_on (kept (read_at base k statuses seen g s t ss)) image).state.phase
+    (tail : Tail) (g : Geometry) (s t : Table) (ss : List Scanned) (image : Image) (source : ℕ)
+    (plan : Plan)
+    → (mounted_on (kept (read_at base k statuses seen tail g s t ss)) image).state.phase
     ≡ Installing source plan
     → k ≡ source
 unfolding state_on
-source_of base k statuses seen g s t ss image source plan is = cc
+source_of base k statuses seen tail g s t ss image source plan is = cc
 
 module _
     (size : ℕ) (image : Image) (base : UpdateMark) (slot : ℕ)
-    (statuses : List (Option PartStatus)) (seen : Control) (g : Geometry) (s t : Table)
-    (ss : List Scanned)
+    (statuses : List (Option PartStatus)) (seen : Control) (tail : Tail) (g : Geometry)
+    (s t : Table) (ss : List Scanned)
     (whole : HasWholeSectors size image)
-    (reads : Reads size (read_at base slot statuses seen g s t ss) image) where
+    (reads : Reads size (read_at base slot statuses seen tail g s t ss) image) where
   abbrev both : Read
-  both = read_at base slot statuses seen g s t ss
+  both = read_at base slot statuses seen tail g s t ss
 
   under : slot < 2
   under = slot_below image both.mark reads.mark
 
-  many : 4120 ≤ size
-  many = leb-true 4120 size reads.enough
+  ended : EndsOn size tail
+  ended =
+      tail_ends base.physical size image tail (leb-true 4120 size reads.enough) reads.tail
+
+  within : HasWholeSectors tail.super_end image
+  within = whole_super size image tail ended.1 whole
 
   source_at : (k : ℕ)
       → k < 2
-      → layout_at (mounted_on (kept (read_at base k statuses seen g s t ss)) image).places k
+      → layout_at (mounted_on (kept (read_at base k statuses seen tail g s t ss)) image).places k
       ≡ Some (plain k (layout_of s))
   source_at zero lt = refl
   source_at (suc zero) lt = refl
@@ -235,7 +256,7 @@ module _
 
   drawn : (k : ℕ)
       → k < 2
-      → images_at (mounted_on (kept (read_at base k statuses seen g s t ss)) image).state k
+      → images_at (mounted_on (kept (read_at base k statuses seen tail g s t ss)) image).state k
       ≡ Some (map (image_on image) (parts_of k (layout_of s)))
   unfolding state_on
   drawn zero lt = refl
@@ -246,7 +267,7 @@ module _
   unfolding state_on
   blocks_are = refl
 
-  source_parts : AreParts size (parts_of slot (layout_of s))
+  source_parts : AreParts tail.super_end (parts_of slot (layout_of s))
   source_parts =
       let o : ℕ = other_slot slot in
       let checked : Check = own_check most_partitions slot s in
@@ -257,14 +278,15 @@ module _
       let two = first_kept checked rest one.1 in
       let own : IsOwn slot (layout_of s).parts =
       own_kept most_partitions slot (layout_of s).parts (omega arith) (none_named _ two.0) in
-      let tables = two_tables size g slot o image (s ∷ t ∷ []) reads.tables in
+      let tables = two_tables tail.super_end g slot o image (s ∷ t ∷ []) reads.tables in
       let are : tables.source ∷ tables.target ∷ [] ≡ s ∷ t ∷ [] = sym tables.are in
       let same : tables.source ≡ s = cc in
-      let read : IsRead size g s =
-      subst (IsRead size g) same
-      (table_rules size image g slot tables.source whole many under reads.geometry
+      let read : IsRead tail.super_end g s =
+      subst (IsRead tail.super_end g) same
+      (table_rules tail.super_end image g slot tables.source within ended.0 under reads.geometry
       tables.source_read) in
-      parts_kept size slot g (layout_of s) many (layout_keeps s read.rules) own read.lies
+      parts_kept tail.super_end slot g (layout_of s) ended.0 (layout_keeps s read.rules) own
+      read.lies
 
   pub installing_source : HasSource size image (mounted_on (kept both) image) slot
   installing_source = record {
@@ -275,6 +297,8 @@ module _
     images = drawn slot under;
     are = refl;
     cap = blocks_are;
+    super_end = tail.super_end;
+    ends = ended.1;
     parts = source_parts;
   }
 
@@ -294,25 +318,30 @@ has_source size image m source plan whole is phase =
     let marked : r ≡ record r { mark = rephased marks.Installing r.mark } =
     (λ i. record r { mark = is_marked i }) in
     let now = subst (IsReadAs size image m) marked (record { reads = was.reads; is = was.is }) in
-    let two = two_tables size r.geometry r.mark.slot (other_slot r.mark.slot) image r.tables
+    let two = two_tables r.tail.super_end r.geometry r.mark.slot (other_slot r.mark.slot) image
+    r.tables
     now.reads.tables in
     let form : record r { mark = rephased marks.Installing r.mark }
-    ≡ read_at r.mark r.mark.slot r.statuses r.control r.geometry two.source two.target r.scanned =
+    ≡ read_at r.mark r.mark.slot r.statuses r.control r.tail r.geometry two.source two.target
+    r.scanned =
     (λ i. record {
       mark = rephased marks.Installing r.mark;
       statuses = r.statuses;
       control = r.control;
+      tail = r.tail;
       geometry = r.geometry;
       tables = two.are i;
       scanned = r.scanned;
     }) in
     let read = subst (IsReadAs size image m) form now in
-    let there = installing_source size image r.mark r.mark.slot r.statuses r.control r.geometry
+    let there = installing_source size image r.mark r.mark.slot r.statuses r.control r.tail
+    r.geometry
     two.source
     two.target r.scanned whole read.reads in
-    let same = source_of r.mark r.mark.slot r.statuses r.control r.geometry two.source two.target
+    let same = source_of r.mark r.mark.slot r.statuses r.control r.tail r.geometry two.source
+    two.target
     r.scanned
     image source plan (sym (ap (λ (x : Mounted). x.state.phase) read.is) ∙ phase) in
     subst (λ (x : Mounted). HasSource size image x source) (sym read.is)
     (subst (HasSource size image (mounted_on (kept (read_at r.mark r.mark.slot r.statuses r.control
-    r.geometry two.source two.target r.scanned)) image)) same there)
+    r.tail r.geometry two.source two.target r.scanned)) image)) same there)

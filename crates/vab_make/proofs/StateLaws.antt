@@ -39,7 +39,7 @@ use Rattle.vab_device.specs.Kept.{lies_in}
 use Rattle.vab_device.specs.Mounted.{Mounted, bytes_at, image_on, state_on, mounted_on}
 use Rattle.vab_device.specs.Phases.{own_check}
 use Rattle.vab_device.specs.Reading.{Read, mark_read, mark_in, geometry_read, geometry_at}
-use Rattle.vab_device.specs.Reading.{table_read, table_at, kept, Reads}
+use Rattle.vab_device.specs.Reading.{table_read, table_at, tail_at, whole_disk, kept, Reads}
 use Rattle.vab_device.proofs.IdleLaws.{reads_idle}
 use Rattle.vab_device.proofs.OpeningLaws.{control_seen_in}
 use Rattle.vab_device.proofs.ReadingLaws.{device_of}
@@ -132,6 +132,12 @@ mark_is : (image : Image) → IsIdle (image 2048) → mark_in image ≡ Ok idle_
 unfolding mark_in
 mark_is image idle = ap mark_read idle.mark
 
+-- no physical partitions stand behind `super`
+ends_with : (size : ℕ) (image : Image)
+    → tail_at idle_one.physical size image ≡ Ok (whole_disk size)
+unfolding tail_at
+ends_with size image = refl
+
 geometry_is : (max size : ℕ) (image : Image)
     → IsMost max
     → 6152 ≤ size
@@ -174,14 +180,16 @@ module _
 
   -- what is read of the disk
   abbrev reading : Read
-  reading = idle_read idle_one made_control (made_geometry max) (table_of made)
+  reading =
+      idle_read idle_one made_control (whole_disk size) (made_geometry max) (table_of made)
 
   reads : IsIdle (image 2048) → Reads size reading image
   reads mark =
       reads_idle size image idle_one
       (le-leb 4120 size (omega (arith, is.room.enough))) (mark_is image mark) refl
-      made_control (made_geometry max) (table_of made) refl
+      made_control (whole_disk size) (made_geometry max) (table_of made) refl
       (control_seen_in true false image made_control has.control)
+      (ends_with size image)
       (geometry_is max size image is.most is.room.enough has.places.primary)
       table_is (parts_read mark) refl
 

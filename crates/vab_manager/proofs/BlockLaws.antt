@@ -20,7 +20,8 @@ use Rattle.vab_model.specs.declared.command.Refusal.TheVariants.{BadName, Unknow
 use Rattle.vab_model.specs.State.{image_named}
 use Rattle.vab_device.specs.declared.device.Part.{Part}
 use Rattle.vab_device.specs.declared.device.Device.{Device}
-use Rattle.vab_device.specs.Kept.{IsPart, ArePresent, IsDevice, parts_at, IsOverlay, IsOverlaidOn}
+use Rattle.vab_device.specs.Kept.{IsPart, IsStore, IsStored, ArePresent, IsDevice, parts_at}
+use Rattle.vab_device.specs.Kept.{IsOverlay, IsOverlaidOn}
 use Rattle.vab_device.specs.Mounted.{bytes_at, sectors_read, image_on, images_on, state_on}
 use Rattle.vab_manager.specs.Found.{part_named, part_in, found_part, part_under, found_over}
 use Rattle.vab_manager.specs.Blocks.{slot_named, KeepsPart, image_at, IsBlockOf, image_read}
@@ -29,7 +30,8 @@ use Rattle.vab_device.specs.Mounted.{overlay_on, overlay_by}
 use Rattle.vab_device.proofs.OverlayLaws.{one_slot}
 use Rattle.vab_model.specs.Over.{read_over}
 use Rattle.vab_names.proofs.NameCases.{same_name}
-use Rattle.vab_device.specs.declared.device.PartImage.TheVariants.{Kept}
+use Rattle.vab_device.specs.declared.device.PartImage.{PartImage}
+use Rattle.vab_device.specs.declared.device.PartImage.TheVariants.{Kept, Declared, Written}
 use Rattle.vab_manager.proofs.SeenLaws.{read_long, read_on_disk}
 use Rattle.vab_manager.specs.Found.{as_read}
 
@@ -132,13 +134,45 @@ of_slot size name (Some ps) p all h = one_of size name ps p all.each h
 base_kept : (d : Device) (size slot : ℕ) (name : List ℕ) (p : Part)
     → IsDevice d size
     → option_and_then (part_named name) (parts_at d slot) ≡ Some p
-    → IsPart size p
+    → IsPart d.tail.super_end p
 base_kept d size slot name p is h = elim (cases_Bool (eqb slot 0)) [
   | inl a ↦ let here : option_and_then (part_named name) d.a ≡ Some p = rw a at h in
-      of_slot size name d.a p is.parts_a here
+      of_slot d.tail.super_end name d.a p is.parts_a here
   | inr a ↦ let here : option_and_then (part_named name) d.b ≡ Some p = rw a at h in
-      of_slot size name d.b p is.parts_b here
+      of_slot d.tail.super_end name d.b p is.parts_b here
 ]
+
+-- what lies in front of a sector lies in front of each behind it
+store_wider : (low high : ℕ) (base store : List ℕ)
+    → low ≤ high
+    → IsStore low base store
+    → IsStore high base store
+store_wider low high base store le is = record {
+  on_disk = λ i d below. omega (arith, is.on_disk i d below, le);
+  once = is.once;
+  apart = is.apart;
+}
+
+stored_wider : (low high : ℕ) (base : List ℕ) (store : Option (List ℕ)) (image : PartImage)
+    → low ≤ high
+    → IsStored low base store image
+    → IsStored high base store image
+stored_wider low high base None Kept le is = is
+stored_wider low high base None Declared le is = is
+stored_wider low high base None (Written k es) le is = is
+stored_wider low high base (Some store) Kept le is = store_wider low high base store le is
+stored_wider low high base (Some store) Declared le is = store_wider low high base store le is
+stored_wider low high base (Some store) (Written k es) le is =
+    (store_wider low high base store le is.0, is.1)
+
+part_wider : (low high : ℕ) (p : Part) → low ≤ high → IsPart low p → IsPart high p
+part_wider low high p le is = record {
+  name = is.name;
+  on_disk = λ i d below. omega (arith, is.on_disk i d below, le);
+  once = is.once;
+  small = is.small;
+  store = stored_wider low high p.map p.store p.image le is.store;
+}
 
 over_kept : (size : ℕ) (parts : Option (List Part)) (o : Option Part) (p : Part)
     → IsOverlay size parts o
@@ -164,9 +198,10 @@ pub part_kept : (d : Device) (size slot : ℕ) (name : List ℕ) (p : Part)
     → IsPart size p
 part_kept d size slot name p is h =
     let q = read_of d.overlay (option_and_then (part_named name) (parts_at d slot)) p h in
-    subst (IsPart size) q.2
-    (over_kept size (parts_at d d.mark.slot) d.overlay q.0 is.overlay
-    (base_kept d size slot name q.0 is q.1))
+    part_wider d.tail.super_end size p is.ends
+    (subst (IsPart d.tail.super_end) q.2
+    (over_kept d.tail.super_end (parts_at d d.mark.slot) d.overlay q.0 is.overlay
+    (base_kept d size slot name q.0 is q.1)))
 
 -- ---- its image
 
@@ -262,22 +297,25 @@ as_image d size image slot name p is below found =
   where
     by : (o : Option Part)
         → is_some o ≡ d.mark.overlaid
-        → IsOverlay size (parts_at d d.mark.slot) o
+        → IsOverlay d.tail.super_end (parts_at d d.mark.slot) o
         → read_over (overlay_on image o) (image_on image p) ≡ image_on image (as_read o p)
     by None some over = refl
     by (Some o) some over =
         let there : is_some (parts_at d slot) ≡ true = some_found (parts_at d slot) name p found in
         let same = one_slot d size slot is (sym some) below there in
         over_slot (parts_at d slot)
-        (subst (λ (ps : Option (List Part)). IsOverlay size ps (Some o)) (sym same) over) found
+        (subst (λ (ps : Option (List Part)). IsOverlay d.tail.super_end ps (Some o)) (sym same)
+        over)
+        found
       where
         over_slot : (ps : Option (List Part))
-            → IsOverlay size ps (Some o)
+            → IsOverlay d.tail.super_end ps (Some o)
             → option_and_then (part_named name) ps ≡ Some p
             → read_over (Some (overlay_by image o)) (image_on image p)
             ≡ image_on image (as_read (Some o) p)
         over_slot None over found = absurd over
-        over_slot (Some parts) over found = over_read size image parts o p name over found
+        over_slot (Some parts) over found =
+            over_read d.tail.super_end image parts o p name over found
 
 -- the image under the name as it is read
 pub image_kept : (d : Device) (size : ℕ) (image : Image) (slot : ℕ) (name : List ℕ) (p : Part)

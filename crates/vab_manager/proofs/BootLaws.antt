@@ -25,6 +25,7 @@ pub kept_device : (d : Device) (size : ℕ) (c : Control)
     → IsDevice (with_boot c d) size
 kept_device d size c is fits current = record {
   enough = is.enough;
+  ends = is.ends;
   geometry = is.geometry;
   control = fits;
   phase = is.phase;

@@ -15,6 +15,7 @@ use Rattle.vab_marks.specs.Mark.{mark_of, mark_spelling, rephased, resloted}
 use Rattle.vab_statuses.specs.Statuses.{written_in}
 use Rattle.vab_geometry.specs.declared.geometry.Geometry.{Geometry}
 use Rattle.vab_tables.specs.declared.table.Table.{Table}
+use Rattle.vab_physical.specs.declared.tail.Tail.{Tail}
 use Rattle.vab_layout.specs.declared.layout.Part.{Part as PartOfLayout}
 use Rattle.vab_layout.specs.Layout.{layout_of}
 use Rattle.vab_layout.specs.Slots.{other_slot, twins_by}
@@ -35,7 +36,7 @@ use Rattle.vab_device.proofs.Behind.{images_behind, stores_behind}
 use Rattle.vab_device.proofs.CheckLaws.{bound, first_kept, check_kept}
 use Rattle.vab_device.proofs.OpeningLaws.{control_seen_in}
 use Rattle.vab_device.proofs.ReadingLaws.{control_is_seen}
-use Rattle.vab_device.proofs.SameLaws.{geometry_same, tables_agree, images_same}
+use Rattle.vab_device.proofs.SameLaws.{tail_kept, geometry_same, tables_agree, images_same}
 use Rattle.vab_device.proofs.StayLaws.{mark_there, copy_stays, copies_from}
 use Rattle.vab_device.proofs.Steps.{marked}
 use Rattle.vab_device.proofs.StoreLaws.{statuses_kept, stores_kept}
@@ -59,14 +60,16 @@ abbrev pub merging_read : UpdateMark
     → ℕ
     → List (Option PartStatus)
     → Control
+    → Tail
     → Geometry
     → Table
     → List Scanned
     → Read
-merging_read base slot ss c g t scanned = record {
+merging_read base slot ss c tail g t scanned = record {
   mark = begun_mark base slot;
   statuses = ss;
   control = c;
+  tail = tail;
   geometry = g;
   tables = t ∷ [];
   scanned = scanned;
@@ -105,11 +108,11 @@ none_named None is = refl
 none_named (Some name) is = absurd cc
 
 module _
-    (base : UpdateMark) (slot : ℕ) (ss : List (Option PartStatus)) (seen : Control) (g : Geometry)
-    (t u : Table)
+    (base : UpdateMark) (slot : ℕ) (ss : List (Option PartStatus)) (seen : Control) (tail : Tail)
+    (g : Geometry) (t u : Table)
     (scanned : List Scanned) (c : Control) (size : ℕ) (old : Image)
     (below : slot < 2)
-    (reads : Reads size (update_read (rephased marks.Staged (resloted slot base)) ss seen g t u
+    (reads : Reads size (update_read (rephased marks.Staged (resloted slot base)) ss seen tail g t u
     scanned) old)
     (whole : control_of (old 4) ≡ Ok c)
     (copies : AgreeCopies g (slot ∷ other_slot slot ∷ []) (t ∷ u ∷ []) old)
@@ -119,7 +122,7 @@ module _
     (running : c.current ≡ other_slot slot)
     (successful : (info_at c (other_slot slot)).successful ≡ true) where
   abbrev before : Read
-  before = update_read (rephased marks.Staged (resloted slot base)) ss seen g t u scanned
+  before = update_read (rephased marks.Staged (resloted slot base)) ss seen tail g t u scanned
 
   abbrev target : ℕ
   target = other_slot slot
@@ -128,7 +131,9 @@ module _
   new = marked old (mark_spelling (begun_mark base (other_slot slot)))
 
   abbrev after : Read
-  after = merging_read base (other_slot slot) ss (control_read_of (other_slot slot) c) g u scanned
+  after =
+      merging_read base (other_slot slot) ss (control_read_of (other_slot slot) c) tail g u
+      scanned
 
   elsewhere : (s : ℕ) → s ≢ 2048 → new s ≡ old s
   elsewhere s other = set_there old 2048 (mark_spelling (begun_mark base (other_slot slot))) s other
@@ -204,12 +209,13 @@ module _
 
   -- ---- what is read
 
-  table_old : tables_in size g (target ∷ []) old ≡ Ok (u ∷ [])
+  table_old : tables_in tail.super_end g (target ∷ []) old ≡ Ok (u ∷ [])
   table_old =
-      let first = bound (table_at size g slot old)
-      (λ t. tables_in size g (target ∷ []) old >>= λ ts. Ok (t ∷ ts)) (t ∷ u ∷ []) reads.tables in
-      let rest = bound (tables_in size g (target ∷ []) old) (λ ts. Ok (first.0 ∷ ts)) (t ∷ u ∷ [])
-      first.2 in
+      let first = bound (table_at tail.super_end g slot old)
+      (λ t. tables_in tail.super_end g (target ∷ []) old >>= λ ts. Ok (t ∷ ts))
+      (t ∷ u ∷ []) reads.tables in
+      let rest = bound (tables_in tail.super_end g (target ∷ []) old)
+      (λ ts. Ok (first.0 ∷ ts)) (t ∷ u ∷ []) first.2 in
       let both : Ok (first.0 ∷ rest.0) ≡ Ok (t ∷ u ∷ []) = rest.2 in
       let e : rest.0 ≡ u ∷ [] = cc in
       rest.1 ∙ ap Ok e
@@ -241,13 +247,17 @@ module _
         (λ read s is. elsewhere s (λ e. omega (arith, e, is.from)))
         ∙ reads.statuses;
     control = control_seen_in (target == 0) (target == 1) new c control_new;
+    tail =
+        tail_kept base.physical size old new (λ some. elsewhere 2113 (λ e. omega (arith, e)))
+        ∙ reads.tail;
     geometry =
-        geometry_same size old new
+        geometry_same tail.super_end old new
         (elsewhere 4104 (λ e. omega (arith, e)))
         (elsewhere 4112 (λ e. omega (arith, e)))
         ∙ reads.geometry;
     tables =
-        tables_agree size g (target ∷ []) old new (table_sectors (target ∷ [])) ∙ table_old;
+        tables_agree tail.super_end g (target ∷ []) old new (table_sectors (target ∷ []))
+        ∙ table_old;
     parts = parts_two after new version_new (rw rules refl);
     stores = stores;
     state = state;
@@ -286,15 +296,18 @@ module _
 
 -- with the target's table alone, which has the same blocks and groups
 pub kept_begun : (base : UpdateMark) (slot : ℕ) (ss : List (Option PartStatus)) (seen : Control)
-    (g : Geometry) (t u : Table) (scanned : List Scanned) (c : Control)
+    (tail : Tail) (g : Geometry) (t u : Table) (scanned : List Scanned) (c : Control)
     → slot < 2
     → (layout_of t).device ≡ (layout_of u).device
     → limits_of slot t.groups ≡ limits_of (other_slot slot) u.groups
     → merging_device (kept_with
-    (update_read (rephased marks.Staged (resloted slot base)) ss seen g t u scanned) c)
+    (update_read (rephased marks.Staged (resloted slot base)) ss seen tail g t u scanned) c)
     ≡ kept_with
-    (merging_read base (other_slot slot) ss (control_read_of (other_slot slot) c) g u scanned) c
-kept_begun base zero ss seen g t u scanned c below device limits = rw (device, limits) refl
-kept_begun base (suc zero) ss seen g t u scanned c below device limits = rw (device, limits) refl
-kept_begun base (suc (suc n)) ss seen g t u scanned c below device limits =
+    (merging_read base (other_slot slot) ss (control_read_of (other_slot slot) c) tail g u scanned)
+    c
+kept_begun base zero ss seen tail g t u scanned c below device limits =
+    rw (device, limits) refl
+kept_begun base (suc zero) ss seen tail g t u scanned c below device limits =
+    rw (device, limits) refl
+kept_begun base (suc (suc n)) ss seen tail g t u scanned c below device limits =
     absurd (omega (arith, below))

@@ -2,7 +2,7 @@
 use Rattle.std.proofs.Common.{◌≡◌, ◌⊎◌, ◌∙◌, inl, inr, ℕ, zero, suc, ◌+◌, ◌-◌, ◌*◌, ◌≤◌, ◌<◌, List}
 use Rattle.std.proofs.Common.{[]}
 use Rattle.std.proofs.Common.{◌∷◌, length, refl, sym, ap, subst, arith}
-use Rattle.std.specs.Prelude.{Option, Some, None, option_map, map, All}
+use Rattle.std.specs.Prelude.{Option, Some, None, option_map, map, nat_le, All}
 use Rattle.std.proofs.lemmas.Bool.{and_parts, leb-true}
 use Rattle.std.proofs.lemmas.List.Elements.{All-get_or}
 use Rattle.vab_disk.specs.Disk.{Image}
@@ -20,7 +20,7 @@ use Rattle.vab_device.specs.declared.device.Part.{Part}
 use Rattle.vab_device.specs.declared.device.PartImage.{PartImage}
 use Rattle.vab_device.specs.declared.device.PartImage.TheVariants.{Written}
 use Rattle.vab_device.specs.declared.device.Device.{Device}
-use Rattle.vab_device.specs.Kept.{IsDevice, IsPart, IsStored, sectors_of, copies_end}
+use Rattle.vab_device.specs.Kept.{IsDevice, IsPart, IsStored, sectors_of, super_bytes, copies_end}
 use Rattle.vab_device.specs.Mounted.{blocks_there}
 use Rattle.vab_device.specs.Phases.{planned_on}
 use Rattle.vab_device.specs.Reading.{Represents, IsOfBlocks}
@@ -130,12 +130,13 @@ turn_in : (d : Device) (size from s : ℕ)
 turn_in d size from s is merging all w =
     let has = next_has d w.place w.next in
     let p : Part = part_at d w.place in
-    let part : IsPart size p =
-    All-get_or (IsPart size) (own_of d) w.place no_part has.0
+    let super_end = d.tail.super_end in
+    let part : IsPart super_end p =
+    All-get_or (IsPart super_end) (own_of d) w.place no_part has.0
     (own_kept d size (single_of d size is merging) is).each in
-    let stored : IsStored size p.map (Some w.store)
+    let stored : IsStored super_end p.map (Some w.store)
     (Written w.chunk w.exceptions) =
-    subst (λ (x : Option (List ℕ) × PartImage). IsStored size p.map x.0 x.1)
+    subst (λ (x : Option (List ℕ) × PartImage). IsStored super_end p.map x.0 x.1)
     (λ i. (w.stored i, w.written i)) part.store in
     let last : ℕ = length w.exceptions - 1 in
     let one : length w.exceptions - last ≡ 1 = omega (arith, w.some) in
@@ -173,9 +174,12 @@ turns_behind d size image blocks s is represents merging w =
     (turned_kept w.before d size is merging)
     (ap (λ m. m.phase) (turned_mark w.before d) ∙ merging)
     (turned_behind w.before from d all) w.turn in
-    let lies = and_parts _ _ rules.table.lies in
+    let lies =
+    and_parts (nat_le l.device.size (super_bytes i.tail.super_end))
+    (nat_le (copies_end i.geometry) (512 * l.device.first_logical_sector))
+    rules.table.lies in
     let geometry : d.geometry ≡ i.geometry = ap (λ (k : Device). k.geometry) i.is in
     let copies : copies_end i.geometry ≤ 512 * l.device.first_logical_sector =
-    leb-true _ _ lies.1 in
+    leb-true (copies_end i.geometry) (512 * l.device.first_logical_sector) lies.1 in
     subst (λ (g : Geometry). copies_end g ≤ 512 * (s - 4096)) (sym geometry)
     (omega (arith, behind, copies))

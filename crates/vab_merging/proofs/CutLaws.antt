@@ -67,7 +67,7 @@ use Rattle.vab_device.proofs.NamedParts.{set_one}
 use Rattle.vab_device.proofs.RepairLaws.{ends_within}
 use Rattle.vab_device.specs.Reading.{version_at}
 use Rattle.vab_device.proofs.MostLaws.{parts_under}
-use Rattle.vab_device.proofs.SameLaws.{version_same}
+use Rattle.vab_device.proofs.SameLaws.{tail_kept, version_same}
 
 -- ---- the copies of a table
 
@@ -242,7 +242,7 @@ module _ (d : Device) (size : ℕ) (old : Image) (i : Merges d size old) (single
         i.scanned i.reads.stores
 
     abbrev read_then : Read
-    read_then = merging_read i.base i.slot i.statuses i.seen i.geometry i.table scanned_then
+    read_then = merging_read i.base i.slot i.statuses i.seen i.tail i.geometry i.table scanned_then
 
     state_then : state_fault read_then ≡ None
     state_then =
@@ -295,6 +295,7 @@ module _ (d : Device) (size : ℕ) (old : Image) (i : Merges d size old) (single
       slot = i.slot;
       statuses = i.statuses;
       seen = i.seen;
+      tail = i.tail;
       geometry = i.geometry;
       table = i.table;
       scanned = scanned_then;
@@ -307,10 +308,15 @@ module _ (d : Device) (size : ℕ) (old : Image) (i : Merges d size old) (single
             (λ reads s is. low s (omega (arith, is.below)))
             ∙ i.reads.statuses;
         control = control_same _ _ old new (low 4 (omega arith)) ∙ i.reads.control;
+        tail =
+            tail_kept i.base.physical size old new (λ some. low 2113 (omega arith))
+            ∙ i.reads.tail;
         geometry =
-            geometry_same size old new (low 4104 (omega arith)) (low 4112 (omega arith))
+            geometry_same i.tail.super_end old new (low 4104 (omega arith)) (low 4112 (omega arith))
             ∙ i.reads.geometry;
-        tables = tables_agree size i.geometry (i.slot ∷ []) old new copies ∙ i.reads.tables;
+        tables =
+            tables_agree i.tail.super_end i.geometry (i.slot ∷ []) old new copies
+            ∙ i.reads.tables;
         parts = parts_under read_then old new version_then i.reads.parts;
         stores = stores_read;
         state = state_then;
@@ -318,7 +324,7 @@ module _ (d : Device) (size : ℕ) (old : Image) (i : Merges d size old) (single
       is =
           ap (with_own d) own_then
           ∙ ap (λ (x : Device). with_own x (plan_of i.slot l scanned_then)) i.is
-          ∙ with_form i.base i.slot i.statuses i.seen d.control i.geometry i.table i.scanned
+          ∙ with_form i.base i.slot i.statuses i.seen d.control i.tail i.geometry i.table i.scanned
           scanned_then
           i.below;
       control = ap control_of (low 4 (omega arith)) ∙ i.control;

@@ -13,6 +13,7 @@ use Rattle.vab_marks.specs.declared.status.PartStatus.{PartStatus}
 use Rattle.vab_marks.specs.Mark.{mark_of, mark_spelling, rephased, resloted}
 use Rattle.vab_geometry.specs.declared.geometry.Geometry.{Geometry}
 use Rattle.vab_tables.specs.declared.table.Table.{Table}
+use Rattle.vab_physical.specs.declared.tail.Tail.{Tail}
 use Rattle.vab_layout.specs.declared.layout.Part.{Part as PartOfLayout}
 use Rattle.vab_layout.specs.declared.layout.Layout.{Layout}
 use Rattle.vab_layout.specs.Layout.{layout_of}
@@ -40,7 +41,7 @@ use Rattle.vab_device.proofs.CheckLaws.{first_kept}
 use Rattle.vab_device.proofs.IdleLaws.{reads_idle}
 use Rattle.vab_device.proofs.OpeningLaws.{control_seen_in}
 use Rattle.vab_device.proofs.ReadingLaws.{control_is_seen, single_works, flags_known}
-use Rattle.vab_device.proofs.SameLaws.{geometry_same, tables_agree, images_same}
+use Rattle.vab_device.proofs.SameLaws.{tail_kept, geometry_same, tables_agree, images_same}
 use Rattle.vab_device.proofs.StayLaws.{copy_stays, copies_from, one_of}
 use Rattle.vab_device.proofs.Steps.{marked}
 use Rattle.vab_device.proofs.UpdateLaws.{kept_with}
@@ -119,15 +120,15 @@ plain_planned l scanned (p ∷ ps) =
     (plain_planned l scanned ps)
 
 kept_ended : (base : UpdateMark) (slot : ℕ) (ss : List (Option PartStatus)) (seen : Control)
-    (g : Geometry) (t : Table) (scanned : List Scanned) (c : Control)
+    (tail : Tail) (g : Geometry) (t : Table) (scanned : List Scanned) (c : Control)
     → slot < 2
-    → ended_device (kept_with (merging_read base slot ss seen g t scanned) c)
-    ≡ kept_with (idle_read (rephased marks.Idle (resloted slot base)) c g t) c
-kept_ended base zero ss seen g t scanned c below =
+    → ended_device (kept_with (merging_read base slot ss seen tail g t scanned) c)
+    ≡ kept_with (idle_read (rephased marks.Idle (resloted slot base)) c tail g t) c
+kept_ended base zero ss seen tail g t scanned c below =
     rw (plain_planned (layout_of t) scanned (own_parts 0 (layout_of t).parts)) refl
-kept_ended base (suc zero) ss seen g t scanned c below =
+kept_ended base (suc zero) ss seen tail g t scanned c below =
     rw (plain_planned (layout_of t) scanned (own_parts 1 (layout_of t).parts)) refl
-kept_ended base (suc (suc n)) ss seen g t scanned c below = absurd (omega (arith, below))
+kept_ended base (suc (suc n)) ss seen tail g t scanned c below = absurd (omega (arith, below))
 
 -- ---- what it means
 
@@ -175,21 +176,24 @@ module _
   of_tables s there =
       elsewhere s (λ e. omega (arith, e, copies_from r.geometry (r.mark.slot ∷ []) s there))
 
-  one : (t : Table) × (r.tables ≡ t ∷ []) × (table_at size r.geometry r.mark.slot old ≡ Ok t)
+  one : (t : Table) × (r.tables ≡ t ∷ [])
+      × (table_at r.tail.super_end r.geometry r.mark.slot old ≡ Ok t)
   one =
-      one_of size r.geometry r.mark.slot old r.tables
-      (subst (λ (p : MarkPhase). tables_in size r.geometry (phase_in p r.mark).tables old
-      ≡ Ok r.tables)
+      one_of r.tail.super_end r.geometry r.mark.slot old r.tables
+      (subst
+      (λ (p : MarkPhase).
+      tables_in r.tail.super_end r.geometry (phase_in p r.mark).tables old ≡ Ok r.tables)
       phase is.reads.tables)
 
   abbrev shaped : Read
-  shaped = merging_read r.mark r.mark.slot r.statuses r.control r.geometry one.0 r.scanned
+  shaped = merging_read r.mark r.mark.slot r.statuses r.control r.tail r.geometry one.0 r.scanned
 
   shape : r ≡ shaped
   shape = (λ i. record {
     mark = as_phase r.mark marks.Merging (flags_known old r.mark is.reads.mark) refl phase i;
     statuses = r.statuses;
     control = r.control;
+    tail = r.tail;
     geometry = r.geometry;
     tables = one.1 i;
     scanned = r.scanned;
@@ -233,11 +237,12 @@ module _
   control_new : control_of (new 4) ≡ Ok d.control
   control_new = ap control_of (elsewhere 4 (λ e. omega (arith, e))) ∙ is.control
 
-  table_new : table_at size r.geometry r.mark.slot new ≡ Ok one.0
+  table_new : table_at r.tail.super_end r.geometry r.mark.slot new ≡ Ok one.0
   table_new =
-      let there : tables_in size r.geometry (r.mark.slot ∷ []) new ≡ Ok (one.0 ∷ []) =
-      tables_agree size r.geometry (r.mark.slot ∷ []) old new of_tables ∙ reads.tables in
-      let now = one_of size r.geometry r.mark.slot new (one.0 ∷ []) there in
+      let there : tables_in r.tail.super_end r.geometry (r.mark.slot ∷ []) new ≡ Ok (one.0 ∷ []) =
+      tables_agree r.tail.super_end r.geometry (r.mark.slot ∷ []) old new of_tables
+      ∙ reads.tables in
+      let now = one_of r.tail.super_end r.geometry r.mark.slot new (one.0 ∷ []) there in
       let both : one.0 ∷ [] ≡ now.0 ∷ [] = now.1 in
       now.2 ∙ (let e : now.0 ≡ one.0 = cc in ap Ok e)
 
@@ -248,24 +253,29 @@ module _
       (ap (λ (m : UpdateMark). m.physical) own_mark ∙ bare_known old r.mark is.reads.mark) read
       (set_here old 2048 (mark_spelling (rephased marks.Completed d.mark)) 2048 refl))
 
-  reads_new : Reads size (idle_read (rephased marks.Idle r.mark) d.control r.geometry one.0) new
+  abbrev ended_read : Read
+  ended_read = idle_read (rephased marks.Idle r.mark) d.control r.tail r.geometry one.0
+
+  reads_new : Reads size ended_read new
   reads_new =
       reads_idle size new (rephased marks.Idle r.mark) is.reads.enough mark_new refl d.control
-      r.geometry
+      r.tail r.geometry
       one.0 refl
       (control_seen_in _ _ new d.control control_new)
-      (geometry_same size old new
+      (tail_kept r.mark.physical size old new
+      (λ some. elsewhere 2113 (λ e. omega (arith, e)))
+      ∙ is.reads.tail)
+      (geometry_same r.tail.super_end old new
       (elsewhere 4104 (λ e. omega (arith, e)))
       (elsewhere 4112 (λ e. omega (arith, e)))
       ∙ is.reads.geometry)
       table_new own_rules works
 
-  kept_is : ended_device d
-      ≡ kept_with (idle_read (rephased marks.Idle r.mark) d.control r.geometry one.0) d.control
+  kept_is : ended_device d ≡ kept_with ended_read d.control
   kept_is =
       ap ended_device (is.is ∙ ap (λ (x : Read). kept_with x d.control) shape)
-      ∙ kept_ended r.mark r.mark.slot r.statuses r.control r.geometry one.0 r.scanned d.control
-      (omega (arith, dev.slot, own))
+      ∙ kept_ended r.mark r.mark.slot r.statuses r.control r.tail r.geometry one.0 r.scanned
+      d.control (omega (arith, dev.slot, own))
 
   copies : AgreeCopies r.geometry (r.mark.slot ∷ []) (one.0 ∷ []) new
   copies =
@@ -282,7 +292,7 @@ module _
 
   pub ended_represents : Represents (ended_device d) size new
   ended_represents = record {
-    read = idle_read (rephased marks.Idle r.mark) d.control r.geometry one.0;
+    read = ended_read;
     reads = reads_new;
     is = kept_is;
     control = control_new;

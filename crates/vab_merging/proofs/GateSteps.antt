@@ -15,6 +15,7 @@ use Rattle.vab_marks.specs.declared.status.PartStatus.{PartStatus}
 use Rattle.vab_marks.specs.Mark.{mark_of, mark_spelling, rephased, resloted}
 use Rattle.vab_geometry.specs.declared.geometry.Geometry.{Geometry}
 use Rattle.vab_tables.specs.declared.table.Table.{Table}
+use Rattle.vab_physical.specs.declared.tail.Tail.{Tail}
 use Rattle.vab_layout.specs.declared.layout.Part.{Part as PartOfLayout}
 use Rattle.vab_layout.specs.Layout.{layout_of}
 use Rattle.vab_layout.specs.Slots.{other_slot, own_parts}
@@ -56,11 +57,11 @@ count_plain at [] = refl
 count_plain at (p ∷ ps) = omega (arith, count_plain at ps)
 
 module _
-    (base : UpdateMark) (ss : List (Option PartStatus)) (seen : Control) (g : Geometry)
-    (t u : Table)
+    (base : UpdateMark) (ss : List (Option PartStatus)) (seen : Control)
+    (tail : Tail) (g : Geometry) (t u : Table)
     (scanned : List Scanned) (c : Control) (old new : Image) where
   abbrev was : ℕ → Device
-  was slot = kept_with (update_read (rephased marks.Staged (resloted slot base)) ss seen g t u
+  was slot = kept_with (update_read (rephased marks.Staged (resloted slot base)) ss seen tail g t u
       scanned) c
 
   abbrev planned : ℕ → List Part
@@ -168,83 +169,84 @@ module _ (size : ℕ) (old : Image) where
       → IsNext d (marked old (mark_spelling (merging_mark d.mark)))
 
   means_shape : (base : UpdateMark) (slot : ℕ) (ss : List (Option PartStatus)) (seen : Control)
-      (g : Geometry)
+      (tail : Tail) (g : Geometry)
       (t u : Table) (scanned : List Scanned) (c : Control) (new : Image)
       → slot < 2
       → images_on new (kept_with
-      (update_read (rephased marks.Staged (resloted slot base)) ss seen g t u scanned) c).a
+      (update_read (rephased marks.Staged (resloted slot base)) ss seen tail g t u scanned) c).a
       ≡ images_on old (kept_with
-      (update_read (rephased marks.Staged (resloted slot base)) ss seen g t u scanned) c).a
+      (update_read (rephased marks.Staged (resloted slot base)) ss seen tail g t u scanned) c).a
       → images_on new (kept_with
-      (update_read (rephased marks.Staged (resloted slot base)) ss seen g t u scanned) c).b
+      (update_read (rephased marks.Staged (resloted slot base)) ss seen tail g t u scanned) c).b
       ≡ images_on old (kept_with
-      (update_read (rephased marks.Staged (resloted slot base)) ss seen g t u scanned) c).b
+      (update_read (rephased marks.Staged (resloted slot base)) ss seen tail g t u scanned) c).b
       → mounted_on
       (merging_device (kept_with
-      (update_read (rephased marks.Staged (resloted slot base)) ss seen g t u scanned) c)) new
+      (update_read (rephased marks.Staged (resloted slot base)) ss seen tail g t u scanned) c)) new
       ≡ merging_from
       (mounted_on (kept_with
-      (update_read (rephased marks.Staged (resloted slot base)) ss seen g t u scanned) c) old) slot
-      (count_at (kept_with (update_read (rephased marks.Staged (resloted slot base)) ss seen g t u
-      scanned) c).a
+      (update_read (rephased marks.Staged (resloted slot base)) ss seen tail g t u scanned) c)
+      old) slot
+      (count_at (kept_with (update_read (rephased marks.Staged (resloted slot base)) ss seen tail g
+      t u scanned) c).a
       + count_at (kept_with
-      (update_read (rephased marks.Staged (resloted slot base)) ss seen g t u scanned) c).b)
-  means_shape base zero ss seen g t u scanned c new below a b =
-      means_a base ss seen g t u scanned c old new
+      (update_read (rephased marks.Staged (resloted slot base)) ss seen tail g t u scanned) c).b)
+  means_shape base zero ss seen tail g t u scanned c new below a b =
+      means_a base ss seen tail g t u scanned c old new
       (some_same (plan_of 1 (layout_of u) scanned) old new b)
-  means_shape base (suc zero) ss seen g t u scanned c new below a b =
-      means_b base ss seen g t u scanned c old new
+  means_shape base (suc zero) ss seen tail g t u scanned c new below a b =
+      means_b base ss seen tail g t u scanned c old new
       (some_same (plan_of 0 (layout_of u) scanned) old new a)
-  means_shape base (suc (suc n)) ss seen g t u scanned c new below a b =
+  means_shape base (suc (suc n)) ss seen tail g t u scanned c new below a b =
       absurd (omega (arith, below))
 
   next_shape : (base : UpdateMark) (slot : ℕ) (ss : List (Option PartStatus)) (seen : Control)
-      (g : Geometry)
+      (tail : Tail) (g : Geometry)
       (t u : Table) (scanned : List Scanned) (c : Control)
-      → NextOf (kept_with (update_read (rephased marks.Staged (resloted slot base)) ss seen g t u
-      scanned) c)
-      (update_read (rephased marks.Staged (resloted slot base)) ss seen g t u scanned)
-  next_shape base slot ss seen g t u scanned c below reads whole copies version read running
+      → NextOf (kept_with (update_read (rephased marks.Staged (resloted slot base)) ss seen tail g t
+      u scanned) c)
+      (update_read (rephased marks.Staged (resloted slot base)) ss seen tail g t u scanned)
+  next_shape base slot ss seen tail g t u scanned c below reads whole copies version read running
       successful =
       record {
         represents = record {
-          read = merging_read base (other_slot slot) ss (control_read_of (other_slot slot) c) g u
-              scanned;
-          reads = reads_new base slot ss seen g t u scanned c size old below reads whole copies
+          read = merging_read base (other_slot slot) ss (control_read_of (other_slot slot) c) tail g
+              u scanned;
+          reads = reads_new base slot ss seen tail g t u scanned c size old below reads whole copies
               version
               read
               running
               successful;
-          is = kept_begun base slot ss seen g t u scanned c below
-              (device_same base slot ss seen g t u scanned c size old below reads whole copies
+          is = kept_begun base slot ss seen tail g t u scanned c below
+              (device_same base slot ss seen tail g t u scanned c size old below reads whole copies
               version
               read
               running
               successful)
-              (limits_same base slot ss seen g t u scanned c size old below reads whole copies
+              (limits_same base slot ss seen tail g t u scanned c size old below reads whole copies
               version
               read
               running
               successful);
-          control = control_new base slot ss seen g t u scanned c size old below reads whole copies
-              version read
+          control = control_new base slot ss seen tail g t u scanned c size old below reads whole
+              copies version read
               running successful;
-          copies = copies_new base slot ss seen g t u scanned c size old below reads whole copies
-              version
+          copies = copies_new base slot ss seen tail g t u scanned c size old below reads whole
+              copies version
               read
               running successful;
-          version = version_new base slot ss seen g t u scanned c size old below reads whole copies
-              version read running successful;
+          version = version_new base slot ss seen tail g t u scanned c size old below reads whole
+              copies version read running successful;
         };
-        means = means_shape base slot ss seen g t u scanned c
+        means = means_shape base slot ss seen tail g t u scanned c
             (marked old (mark_spelling (merging_mark (rephased marks.Staged (resloted slot base)))))
             below
-            (images_a base slot ss seen g t u scanned c size old below reads whole copies version
-            read
+            (images_a base slot ss seen tail g t u scanned c size old below reads whole copies
+            version read
             running
             successful)
-            (images_b base slot ss seen g t u scanned c size old below reads whole copies version
-            read
+            (images_b base slot ss seen tail g t u scanned c size old below reads whole copies
+            version read
             running
             successful);
       }
@@ -265,23 +267,25 @@ module _ (size : ℕ) (old : Image) where
     phase = sym (ap (λ (k : Device). k.mark.phase) is.is) ∙ may.staged
 
     two : (t : Table) × (u : Table) × (r.tables ≡ t ∷ u ∷ [])
-        × (table_at size r.geometry r.mark.slot old ≡ Ok t)
+        × (table_at r.tail.super_end r.geometry r.mark.slot old ≡ Ok t)
     two =
-        two_of size r.geometry r.mark.slot (other_slot r.mark.slot) old r.tables
-        (subst (λ (p : MarkPhase). tables_in size r.geometry (phase_in p r.mark).tables old
-        ≡ Ok r.tables)
+        two_of r.tail.super_end r.geometry r.mark.slot (other_slot r.mark.slot) old r.tables
+        (subst
+        (λ (p : MarkPhase).
+        tables_in r.tail.super_end r.geometry (phase_in p r.mark).tables old ≡ Ok r.tables)
         phase is.reads.tables)
 
     abbrev shaped : Read
     shaped =
-        update_read (rephased marks.Staged r.mark) r.statuses r.control r.geometry two.0 two.1
-        r.scanned
+        update_read (rephased marks.Staged r.mark) r.statuses r.control r.tail r.geometry two.0
+        two.1 r.scanned
 
     shape : r ≡ shaped
     shape = (λ i. record {
       mark = as_phase r.mark marks.Staged (flags_known old r.mark is.reads.mark) refl phase i;
       statuses = r.statuses;
       control = r.control;
+      tail = r.tail;
       geometry = r.geometry;
       tables = two.2 i;
       scanned = r.scanned;
@@ -294,7 +298,7 @@ module _ (size : ℕ) (old : Image) where
     next =
         subst (λ (y : Read). NextOf d y) (sym shape)
         (subst (λ (k : Device). NextOf k shaped) (sym form)
-        (next_shape r.mark r.mark.slot r.statuses r.control r.geometry two.0 two.1 r.scanned
+        (next_shape r.mark r.mark.slot r.statuses r.control r.tail r.geometry two.0 two.1 r.scanned
         d.control))
         dev.slot is.reads is.control is.copies is.version read may.running may.successful
 

@@ -81,6 +81,7 @@ pub merging_kept : (d : Device) (size : ℕ)
 merging_kept d size is may =
     let n = d.mark.slot in
     let both = both_of d size is (ap has_both may.staged) in
+    let super_end = d.tail.super_end in
     let g = d.geometry in
     let own : table_of_slot (merging_device d) (other_slot n) ≡ table_of_slot d (other_slot n) =
     target_at n d.table_a d.table_b is.slot in
@@ -88,6 +89,7 @@ merging_kept d size is may =
     source_at n d.table_a d.table_b is.slot in
     record {
       enough = is.enough;
+      ends = is.ends;
       geometry = is.geometry;
       control = is.control;
       phase = inr (inr (inr refl));
@@ -97,10 +99,10 @@ merging_kept d size is may =
       has_a = has_a_at n d.a is.slot (ap is_some both.2);
       has_b = has_b_at n d.b is.slot (ap is_some both.3);
       copies_on = is.copies_on;
-      parts_a = without_first (ArePresent size) n d.a tt is.parts_a;
-      parts_b = without_other (ArePresent size) n d.b tt is.parts_b;
-      table_a = without_first (IsKeptTable size g 0) n d.table_a tt is.table_a;
-      table_b = without_other (IsKeptTable size g 1) n d.table_b tt is.table_b;
+      parts_a = without_first (ArePresent super_end) n d.a tt is.parts_a;
+      parts_b = without_other (ArePresent super_end) n d.b tt is.parts_b;
+      table_a = without_first (IsKeptTable super_end g 0) n d.table_a tt is.table_a;
+      table_b = without_other (IsKeptTable super_end g 1) n d.table_b tt is.table_b;
       source = ap is_some own ∙ is.target ∙ ap reads_both may.staged;
       target = ap is_some other;
       planned = is.planned ∙ ap is_installing may.staged;
@@ -113,7 +115,7 @@ merging_kept d size is may =
           (no_target false (other_slot n) (table_of_slot (merging_device d) (other_slot n)));
       overlaid = is.overlaid ∙ not_overlaid d.mark is.flags (ap is_idle may.staged);
       overlay = subst
-          (IsOverlay size (parts_at (merging_device d) (other_slot n)))
+          (IsOverlay super_end (parts_at (merging_device d) (other_slot n)))
           (sym (update_none d size is (ap is_idle may.staged)))
           tt;
     }
@@ -162,6 +164,7 @@ ended_kept d size is merging =
     let has = λ (slot : ℕ). ap (λ (p : MarkPhase). has_slot p n slot) merging in
     record {
       enough = is.enough;
+      ends = is.ends;
       geometry = is.geometry;
       control = is.control;
       phase = inl refl;
@@ -171,8 +174,8 @@ ended_kept d size is merging =
       has_a = plain_there d.a ∙ is.has_a ∙ has 0;
       has_b = plain_there d.b ∙ is.has_b ∙ has 1;
       copies_on = is.copies_on;
-      parts_a = plain_present size d.a is.parts_a;
-      parts_b = plain_present size d.b is.parts_b;
+      parts_a = plain_present d.tail.super_end d.a is.parts_a;
+      parts_b = plain_present d.tail.super_end d.b is.parts_b;
       table_a = is.table_a;
       table_b = is.table_b;
       source = is.source;
@@ -186,7 +189,7 @@ ended_kept d size is merging =
           (not_apart d.mark is.flags (ap may_stand_apart merging)) is.update;
       overlaid = is.overlaid ∙ not_overlaid d.mark is.flags (ap is_idle merging);
       overlay = subst
-          (IsOverlay size (parts_at (ended_device d) n))
+          (IsOverlay d.tail.super_end (parts_at (ended_device d) n))
           (sym (update_none d size is (ap is_idle merging)))
           tt;
     }

@@ -13,6 +13,7 @@ use Rattle.vab_marks.specs.declared.mark.UpdateMark.{UpdateMark}
 use Rattle.vab_marks.specs.declared.status.PartStatus.{PartStatus}
 use Rattle.vab_geometry.specs.declared.geometry.Geometry.{Geometry}
 use Rattle.vab_tables.specs.declared.table.Table.{Table}
+use Rattle.vab_physical.specs.declared.tail.Tail.{Tail}
 use Rattle.vab_layout.specs.declared.layout.Part.{Part as PartOfLayout}
 use Rattle.vab_layout.specs.declared.layout.Layout.{Layout}
 use Rattle.vab_layout.specs.Layout.{layout_of}
@@ -53,16 +54,16 @@ store_name slot name own =
     ap (λ (n : List ℕ). n ++ store_suffix) (sym (of_slot slot name own))
 
 table_form : (base : UpdateMark) (slot : ℕ) (ss : List (Option PartStatus)) (seen c : Control)
-    (g : Geometry) (t : Table) (scanned : List Scanned)
+    (tail : Tail) (g : Geometry) (t : Table) (scanned : List Scanned)
     → slot < 2
-    → table_of_slot (record (kept (merging_read base slot ss seen g t scanned)) {
+    → table_of_slot (record (kept (merging_read base slot ss seen tail g t scanned)) {
       control =
           c;
     }) slot
     ≡ Some t
-table_form base zero ss seen c g t scanned below = refl
-table_form base (suc zero) ss seen c g t scanned below = refl
-table_form base (suc (suc n)) ss seen c g t scanned below = absurd (omega (arith, below))
+table_form base zero ss seen c tail g t scanned below = refl
+table_form base (suc zero) ss seen c tail g t scanned below = refl
+table_form base (suc (suc n)) ss seen c tail g t scanned below = absurd (omega (arith, below))
 
 module _ (d : Device) (size : ℕ) (image : Image)
     (represents : Represents d size image)
@@ -78,7 +79,8 @@ module _ (d : Device) (size : ℕ) (image : Image)
   table_is : table_of_slot d d.mark.slot ≡ Some i.table
   table_is =
       ap (λ (k : Device). table_of_slot k k.mark.slot) i.is
-      ∙ table_form i.base i.slot i.statuses i.seen d.control i.geometry i.table i.scanned i.below
+      ∙ table_form i.base i.slot i.statuses i.seen d.control i.tail i.geometry i.table i.scanned
+      i.below
 
   none_of_table : first_place i.slot (own_of d) (stores_in i.slot (Some i.table)) ≡ None
   none_of_table =

@@ -19,6 +19,7 @@ use Rattle.vab_geometry.specs.Geometry.{IsGeometry}
 use Rattle.vab_space.specs.declared.Chunk.{Chunk}
 use Rattle.vab_exceptions.specs.declared.area.Exception.{Exception}
 use Rattle.vab_tables.specs.declared.table.Table.{Table}
+use Rattle.vab_physical.specs.declared.tail.Tail.{Tail}
 use Rattle.vab_layout.specs.declared.layout.Part.{Part as PartOfLayout}
 use Rattle.vab_layout.specs.declared.layout.Layout.{Layout}
 use Rattle.vab_layout.specs.Layout.{layout_of}
@@ -60,14 +61,16 @@ abbrev pub merging_read : UpdateMark
     → ℕ
     → List (Option PartStatus)
     → Control
+    → Tail
     → Geometry
     → Table
     → List Scanned
     → Read
-merging_read base slot statuses control geometry t scanned = record {
+merging_read base slot statuses control tail geometry t scanned = record {
   mark = rephased marks.Merging (resloted slot base);
   statuses = statuses;
   control = control;
+  tail = tail;
   geometry = geometry;
   tables = t ∷ [];
   scanned = scanned;
@@ -79,13 +82,14 @@ pub record Merges (d : Device) (size : ℕ) (image : Image) : Type 0 where
   pub slot : ℕ
   pub statuses : List (Option PartStatus)
   pub seen : Control
+  pub tail : Tail
   pub geometry : Geometry
   pub table : Table
   pub scanned : List Scanned
   pub below : slot < 2
-  pub reads : Reads size (merging_read base slot statuses seen geometry table scanned) image
+  pub reads : Reads size (merging_read base slot statuses seen tail geometry table scanned) image
   pub is : d
-      ≡ record (kept (merging_read base slot statuses seen geometry table scanned)) {
+      ≡ record (kept (merging_read base slot statuses seen tail geometry table scanned)) {
         control = d.control;
       }
   pub control : control_of (image 4) ≡ Ok d.control
@@ -96,7 +100,7 @@ pub merges_represents : (d : Device) (size : ℕ) (image : Image)
     → Merges d size image
     → Represents d size image
 merges_represents d size image i = record {
-  read = merging_read i.base i.slot i.statuses i.seen i.geometry i.table i.scanned;
+  read = merging_read i.base i.slot i.statuses i.seen i.tail i.geometry i.table i.scanned;
   reads = i.reads;
   is = i.is;
   control = i.control;
@@ -112,18 +116,19 @@ merges_of d size image is merging =
     let r : Read = is.read in
     let phase : r.mark.phase ≡ marks.Merging =
     sym (ap (λ (k : Device). k.mark.phase) is.is) ∙ merging in
-    let one = one_of size r.geometry r.mark.slot image r.tables
+    let one = one_of r.tail.super_end r.geometry r.mark.slot image r.tables
     (subst
     (λ (p : MarkPhase).
-    tables_in size r.geometry (phase_in p r.mark).tables image ≡ Ok r.tables)
+    tables_in r.tail.super_end r.geometry (phase_in p r.mark).tables image ≡ Ok r.tables)
     phase is.reads.tables) in
     let form : Read =
-    merging_read r.mark r.mark.slot r.statuses r.control r.geometry one.0 r.scanned in
+    merging_read r.mark r.mark.slot r.statuses r.control r.tail r.geometry one.0 r.scanned in
     let e : r ≡ form =
     (λ i. record {
       mark = as_phase r.mark marks.Merging (flags_known image r.mark is.reads.mark) refl phase i;
       statuses = r.statuses;
       control = r.control;
+      tail = r.tail;
       geometry = r.geometry;
       tables = one.1 i;
       scanned = r.scanned;
@@ -133,6 +138,7 @@ merges_of d size image is merging =
       slot = r.mark.slot;
       statuses = r.statuses;
       seen = r.control;
+      tail = r.tail;
       geometry = r.geometry;
       table = one.0;
       scanned = r.scanned;
@@ -151,29 +157,29 @@ merges_of d size image is merging =
 -- ---- the partitions of the slot
 
 own_form : (base : UpdateMark) (slot : ℕ) (ss : List (Option PartStatus)) (seen c : Control)
-    (g : Geometry) (t : Table) (scanned : List Scanned)
+    (tail : Tail) (g : Geometry) (t : Table) (scanned : List Scanned)
     → slot < 2
-    → own_of (record (kept (merging_read base slot ss seen g t scanned)) { control = c })
+    → own_of (record (kept (merging_read base slot ss seen tail g t scanned)) { control = c })
     ≡ plan_of slot (layout_of t) scanned
-own_form base zero ss seen c g t scanned below = refl
-own_form base (suc zero) ss seen c g t scanned below = refl
-own_form base (suc (suc n)) ss seen c g t scanned below = absurd (omega (arith, below))
+own_form base zero ss seen c tail g t scanned below = refl
+own_form base (suc zero) ss seen c tail g t scanned below = refl
+own_form base (suc (suc n)) ss seen c tail g t scanned below = absurd (omega (arith, below))
 
 pub with_form : (base : UpdateMark) (slot : ℕ) (ss : List (Option PartStatus)) (seen c : Control)
-    (g : Geometry) (t : Table) (scanned now : List Scanned)
+    (tail : Tail) (g : Geometry) (t : Table) (scanned now : List Scanned)
     → slot < 2
-    → with_own (record (kept (merging_read base slot ss seen g t scanned)) { control = c })
+    → with_own (record (kept (merging_read base slot ss seen tail g t scanned)) { control = c })
     (plan_of slot (layout_of t) now)
-    ≡ record (kept (merging_read base slot ss seen g t now)) { control = c }
-with_form base zero ss seen c g t scanned now below = refl
-with_form base (suc zero) ss seen c g t scanned now below = refl
-with_form base (suc (suc n)) ss seen c g t scanned now below = absurd (omega (arith, below))
+    ≡ record (kept (merging_read base slot ss seen tail g t now)) { control = c }
+with_form base zero ss seen c tail g t scanned now below = refl
+with_form base (suc zero) ss seen c tail g t scanned now below = refl
+with_form base (suc (suc n)) ss seen c tail g t scanned now below = absurd (omega (arith, below))
 
 pub own_is : (d : Device) (size : ℕ) (image : Image) (i : Merges d size image)
     → own_of d ≡ plan_of i.slot (layout_of i.table) i.scanned
 own_is d size image i =
     ap own_of i.is
-    ∙ own_form i.base i.slot i.statuses i.seen d.control i.geometry i.table i.scanned i.below
+    ∙ own_form i.base i.slot i.statuses i.seen d.control i.tail i.geometry i.table i.scanned i.below
 
 pub slot_is : (d : Device) (size : ℕ) (image : Image) (i : Merges d size image)
     → d.mark.slot ≡ i.slot
@@ -181,14 +187,14 @@ slot_is d size image i = ap (λ (k : Device). k.mark.slot) i.is
 
 -- ---- the table
 
-table_of : (size slot : ℕ) (g : Geometry) (t : Table)
+table_of : (super_end slot : ℕ) (g : Geometry) (t : Table)
     → slot < 2
-    → IsKeptTable size g 0 (table_for 0 (slot ∷ []) (t ∷ []))
-    → IsKeptTable size g 1 (table_for 1 (slot ∷ []) (t ∷ []))
-    → IsTableOf size g slot t
-table_of size zero g t below a b = a
-table_of size (suc zero) g t below a b = b
-table_of size (suc (suc n)) g t below a b = absurd (omega (arith, below))
+    → IsKeptTable super_end g 0 (table_for 0 (slot ∷ []) (t ∷ []))
+    → IsKeptTable super_end g 1 (table_for 1 (slot ∷ []) (t ∷ []))
+    → IsTableOf super_end g slot t
+table_of super_end zero g t below a b = a
+table_of super_end (suc zero) g t below a b = b
+table_of super_end (suc (suc n)) g t below a b = absurd (omega (arith, below))
 
 names_kept : (o : Option (List ℕ)) → names_none o ≡ None → o ≡ None
 names_kept None is = refl
@@ -197,21 +203,22 @@ names_kept (Some name) is = absurd cc
 -- what holds of the table
 pub record Rules (d : Device) (size : ℕ) (image : Image) (i : Merges d size image) : Type 0 where
   pub geometry : IsGeometry i.geometry
-  pub table : IsTableOf size i.geometry i.slot i.table
+  pub table : IsTableOf i.tail.super_end i.geometry i.slot i.table
   pub merging : IsMerging i.slot (layout_of i.table).parts
 
 pub rules_of : (d : Device) (size : ℕ) (image : Image) (i : Merges d size image)
     → IsDevice d size
     → Rules d size image i
 rules_of d size image i is =
-    let r : Read = merging_read i.base i.slot i.statuses i.seen i.geometry i.table i.scanned in
+    let r : Read =
+    merging_read i.base i.slot i.statuses i.seen i.tail i.geometry i.table i.scanned in
     let form : Device = record (kept r) { control = d.control } in
     let of : IsDevice form size = subst (λ (k : Device). IsDevice k size) i.is is in
     let none = first_kept (merging_check most_partitions i.slot i.table) []
     (parts_all r image i.reads.parts) in
     record {
       geometry = of.geometry;
-      table = table_of size i.slot i.geometry i.table i.below of.table_a of.table_b;
+      table = table_of i.tail.super_end i.slot i.geometry i.table i.below of.table_a of.table_b;
       merging =
           (is_merging most_partitions i.slot (layout_of i.table).parts (omega arith)
           (names_kept (bad_merging_of most_partitions i.slot (layout_of i.table).parts)
@@ -320,21 +327,22 @@ module _ (d : Device) (size : ℕ) (image : Image) (i : Merges d size image) (pl
         differ = differ;
       }
 
-  placed_part : IsPart size (part_at d place)
+  placed_part : IsPart d.tail.super_end (part_at d place)
       → 0 < count_of (part_at d place).image
       → Placed d size image i place
   placed_part kept some =
+      let super_end = d.tail.super_end in
       let w = written_of (is_updated part) (scanned_named part.name i.scanned)
       (subst (λ (p : Part). 0 < count_of p.image) planned some) in
-      let stored : IsStored size (sectors_of at part.blocks) (store_on l part.name)
+      let stored : IsStored super_end (sectors_of at part.blocks) (store_on l part.name)
       (planned_image (is_updated part) (scanned_named part.name i.scanned)) =
-      (subst (IsPart size) planned kept).store in
-      let as_written : IsStored size (sectors_of at part.blocks) (store_on l part.name)
+      (subst (IsPart super_end) planned kept).store in
+      let as_written : IsStored super_end (sectors_of at part.blocks) (store_on l part.name)
       (Written w.0.chunk w.0.exceptions) =
       subst
-      (λ (x : PartImage). IsStored size (sectors_of at part.blocks) (store_on l part.name) x)
+      (λ (x : PartImage). IsStored super_end (sectors_of at part.blocks) (store_on l part.name) x)
       (λ k. planned_image (w.1 k) (w.2 k)) stored in
-      let s = stored_of size at (sectors_of at part.blocks)
+      let s = stored_of super_end at (sectors_of at part.blocks)
       (first_named (store_of part.name) l.parts) w.0.chunk w.0.exceptions as_written w.3 in
       placed_with s.0 w.0 s.1 w.1 w.2
 
@@ -358,5 +366,6 @@ placed_of d size image i place single is rules below some =
     (Contains-get_or owns place none within)
     (ap (λ (ps : List Part). get_or ps place no_part) whole
     ∙ get_or-map (planned_on l i.scanned) owns place none no_part within)
-    (All-get_or (IsPart size) (own_of d) place no_part below (own_kept d size single is).each)
+    (All-get_or (IsPart d.tail.super_end) (own_of d) place no_part below
+    (own_kept d size single is).each)
     some

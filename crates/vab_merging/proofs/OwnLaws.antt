@@ -143,20 +143,24 @@ left_both d size is phase =
 pub own_kept : (d : Device) (size : ℕ)
     → Single d
     → IsDevice d size
-    → AreParts size (own_of d)
+    → AreParts d.tail.super_end (own_of d)
 own_kept d size s is =
-    by_form (λ (k : Device). IsDevice k size → AreParts size (own_of k)) d s
+    by_form (λ (k : Device). IsDevice k size → AreParts k.tail.super_end (own_of k)) d s
     (λ is. is.parts_a) (λ is. is.parts_b) is
 
 pub with_kept : (d : Device) (size : ℕ) (ps : List Part)
     → Single d
     → IsDevice d size
-    → AreParts size ps
+    → AreParts d.tail.super_end ps
     → IsDevice (with_own d ps) size
 with_kept d size ps s is parts =
-    by_form (λ (k : Device). IsDevice k size → IsDevice (with_own k ps) size) d s
-    (λ is. record {
+    by_form
+    (λ (k : Device).
+    IsDevice k size → AreParts k.tail.super_end ps → IsDevice (with_own k ps) size)
+    d s
+    (λ is parts. record {
       enough = is.enough;
+      ends = is.ends;
       geometry = is.geometry;
       control = is.control;
       phase = is.phase;
@@ -178,8 +182,9 @@ with_kept d size ps s is parts =
       overlaid = is.overlaid;
       overlay = tt;
     })
-    (λ is. record {
+    (λ is parts. record {
       enough = is.enough;
+      ends = is.ends;
       geometry = is.geometry;
       control = is.control;
       phase = is.phase;
@@ -201,7 +206,7 @@ with_kept d size ps s is parts =
       overlaid = is.overlaid;
       overlay = tt;
     })
-    is
+    is parts
 
 -- ---- what the device means with them
 

@@ -58,17 +58,22 @@ pub record IsRunnable (size : ℕ) (p : Part) : Type 0 where
   pub store : is_some p.store ≡ true
   pub may : MayMerge (chunk_in p.image) p.map (store_in p) (exceptions_in p.image) size
 
-on_disk : (size : ℕ) (map : List ℕ) → All (λ s. s + 8 ≤ size) map → IsOnDisk map size
-on_disk size map all j below = All-get_or (λ s. s + 8 ≤ size) map j 0 below all
+on_disk : (super_end size : ℕ) (map : List ℕ)
+    → super_end ≤ size
+    → All (λ s. s + 8 ≤ super_end) map
+    → IsOnDisk map size
+on_disk super_end size map ends all j below =
+    omega (arith, ends, All-get_or (λ s. s + 8 ≤ super_end) map j 0 below all)
 
-pub runnable : (size : ℕ) (p : Part)
-    → IsPart size p
+pub runnable : (super_end size : ℕ) (p : Part)
+    → super_end ≤ size
+    → IsPart super_end p
     → 0 < count_of p.image
     → IsRunnable size p
-runnable size p is some = by_image p.store p.image is.store some
+runnable super_end size p ends is some = by_image p.store p.image is.store some
   where
     by_image : (store : Option (List ℕ)) (image : PartImage)
-        → IsStored size p.map store image
+        → IsStored super_end p.map store image
         → 0 < count_of image
         → IsRunnable size (record p { store = store; image = image })
     by_image store Kept stored some = absurd (omega (arith, some))
@@ -79,8 +84,8 @@ runnable size p is some = by_image p.store p.image is.store some
       store = refl;
       may = record {
         fits = stored.1;
-        base_on_disk = on_disk size p.map is.on_disk;
-        store_on_disk = on_disk size store stored.0.on_disk;
+        base_on_disk = on_disk super_end size p.map ends is.on_disk;
+        store_on_disk = on_disk super_end size store ends stored.0.on_disk;
       };
     }
 
@@ -157,11 +162,13 @@ module _ (d : Device) (size place : ℕ)
   pub some : 0 < count_of part.image
   some = (next_has d place next).1
 
-  pub part_is : IsPart size part
-  part_is = All-get_or (IsPart size) (own_of d) place no_part below (own_kept d size single is).each
+  pub part_is : IsPart d.tail.super_end part
+  part_is =
+      All-get_or (IsPart d.tail.super_end) (own_of d) place no_part below
+      (own_kept d size single is).each
 
   pub runs_here : IsRunnable size part
-  runs_here = runnable size part part_is some
+  runs_here = runnable d.tail.super_end size part is.ends part_is some
 
   long : length es ≡ count_of part.image
   long = exceptions_count part.image

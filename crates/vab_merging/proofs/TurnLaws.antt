@@ -170,12 +170,13 @@ pub cut_kept : (d : Device) (size place n : ℕ)
     → IsDevice (cut_at place n d) size
 cut_kept d size place n s is below =
     let own = own_kept d size s is in
+    let super_end = d.tail.super_end in
     let p : Part = part_at d place in
     with_kept d size (set (own_of d) place (cut_part n p)) s is (record {
       each =
-          all_set (IsPart size) (own_of d) place (cut_part n p) own.each
-          (part_cut size n p
-          (All-get_or (IsPart size) (own_of d) place no_part below own.each));
+          all_set (IsPart super_end) (own_of d) place (cut_part n p) own.each
+          (part_cut super_end n p
+          (All-get_or (IsPart super_end) (own_of d) place no_part below own.each));
       few = omega (arith, own.few, length-set (own_of d) place (cut_part n p));
     })
 

@@ -131,21 +131,21 @@ module _
     stored = is.stored;
   }
 
-  old_table : IsTableOf n d.geometry d.mark.slot is.table
+  old_table : IsTableOf d.tail.super_end d.geometry d.mark.slot is.table
   old_table = kept_table d n is.table dev is.is
 
-  pub prepared_lies : lies_in n d.geometry (layout_of is.table).device ≡ true
+  pub prepared_lies : lies_in d.tail.super_end d.geometry (layout_of is.table).device ≡ true
   prepared_lies = old_table.lies
 
   device_same : (layout_of x.table).device ≡ (layout_of is.table).device
   device_same = device_is d.mark.slot is.table x.table is.stored.plain
 
-  pub prepared_table : IsTableOf n d.geometry d.mark.slot x.table
+  pub prepared_table : IsTableOf d.tail.super_end d.geometry d.mark.slot x.table
   prepared_table = record {
     rules = is.stored.rules;
     small = omega (arith, is.stored.size, dev.geometry.most);
     own = is.stored.own;
-    lies = ap (lies_in n d.geometry) device_same ∙ old_table.lies;
+    lies = ap (lies_in d.tail.super_end d.geometry) device_same ∙ old_table.lies;
   }
 
   pub prepared_short : length x.text ≤ d.geometry.max

@@ -13,6 +13,7 @@ use Rattle.vab_marks.specs.Mark.{resloted}
 use Rattle.vab_bootctl.specs.declared.slots.Control.{Control}
 use Rattle.vab_geometry.specs.declared.geometry.Geometry.{Geometry}
 use Rattle.vab_tables.specs.declared.table.Table.{Table}
+use Rattle.vab_physical.specs.declared.tail.Tail.{Tail}
 use Rattle.vab_blocks.proofs.Contained.{first, later}
 use Rattle.vab_layout.specs.Layout.{layout_of}
 use Rattle.vab_layout.specs.Slots.{own_parts}
@@ -43,17 +44,18 @@ present_at n (suc (suc k)) a b ps below of_a of_b is = absurd (omega (arith, bel
 pub parts_present : (d : Device) (n : ℕ) (ps : List Part)
     → IsDevice d n
     → parts_at d d.mark.slot ≡ Some ps
-    → AreParts n ps
+    → AreParts d.tail.super_end ps
 parts_present d n ps dev is =
-    present_at n d.mark.slot d.a d.b ps dev.slot dev.parts_a dev.parts_b is
+    present_at d.tail.super_end d.mark.slot d.a d.b ps dev.slot dev.parts_a dev.parts_b is
 
-kept_parts : (m : UpdateMark) (slot : ℕ) (c seen : Control) (g : Geometry) (t : Table)
+kept_parts : (m : UpdateMark) (slot : ℕ) (c seen : Control) (tail : Tail) (g : Geometry)
+    (t : Table)
     → slot < 2
-    → parts_at (kept_with (read_at (resloted slot m) seen g t) c) slot
+    → parts_at (kept_with (read_at (resloted slot m) seen tail g t) c) slot
     ≡ Some (parts_of slot (layout_of t))
-kept_parts m zero c seen g t below = refl
-kept_parts m (suc zero) c seen g t below = refl
-kept_parts m (suc (suc k)) c seen g t below = absurd (omega (arith, below))
+kept_parts m zero c seen tail g t below = refl
+kept_parts m (suc zero) c seen tail g t below = refl
+kept_parts m (suc (suc k)) c seen tail g t below = absurd (omega (arith, below))
 
 -- those of its disk are those of the table
 pub parts_are : (d : Device) (n : ℕ) (image : Image) (t : Table)
@@ -66,7 +68,7 @@ pub parts_are : (d : Device) (n : ℕ) (image : Image) (t : Table)
 parts_are d n image t dev is idle plain table =
     let st = stands_idle d n image t dev.slot idle plain table is in
     ap (λ (k : Device). parts_at k d.mark.slot) st.is
-    ∙ kept_parts d.mark d.mark.slot d.control d.control d.geometry t dev.slot
+    ∙ kept_parts d.mark d.mark.slot d.control d.control d.tail d.geometry t dev.slot
 
 -- ---- their blocks
 
@@ -106,7 +108,9 @@ each_counted d n image t ps dev is whole idle plain table parts =
     subst (λ (l : List Part). All (λ (p : Part). p.image ≡ Kept) l) (sym same)
     (parts_kept (layout_of t).device.first_logical_sector d.mark.slot t) in
     λ k p lt.
-    counted n image (get_or ps k p) whole ((parts_present d n ps dev parts).each k p lt)
+    counted d.tail.super_end image (get_or ps k p)
+    (λ s below. whole s (omega (arith, below, dev.ends)))
+    ((parts_present d n ps dev parts).each k p lt)
     (kept k p lt)
 
 sizes_small : (n : ℕ) (ps : List Part)

@@ -38,7 +38,7 @@ use Rattle.vab_device.proofs.OpeningLaws.{control_seen_in}
 use Rattle.vab_device.proofs.OverlayLaws.{overlaid_idle}
 use Rattle.vab_device.proofs.PhaseCases.{some_of, none_of, no_target, unplanned_of}
 use Rattle.vab_device.proofs.ReadingLaws.{idle_at, single_works, control_is_seen, seen_slots}
-use Rattle.vab_device.proofs.SameLaws.{geometry_same, tables_agree, images_same}
+use Rattle.vab_device.proofs.SameLaws.{tail_kept, geometry_same, tables_agree, images_same}
 use Rattle.vab_device.proofs.StayLaws.{mark_there, copy_stays, copies_from, one_of, version_there}
 use Rattle.vab_device.proofs.Steps.{marked, IsStep}
 use Rattle.vab_device.proofs.UpdateLaws.{kept_with}
@@ -53,6 +53,7 @@ read_by m r t = record {
   mark = m;
   statuses = r.statuses;
   control = r.control;
+  tail = r.tail;
   geometry = r.geometry;
   tables = t ∷ [];
   scanned = r.scanned;
@@ -62,7 +63,8 @@ kept_plain : (base : UpdateMark) (slot : ℕ) (c : Control) (r : Read) (t : Tabl
     → slot < 2
     → without_overlay (kept_with
     (read_by (record base { phase = marks.Idle; slot = slot }) r t) c)
-    ≡ kept_with (idle_read (overlaid_by false (record base { slot = slot })) c r.geometry t) c
+    ≡ kept_with
+    (idle_read (overlaid_by false (record base { slot = slot })) c r.tail r.geometry t) c
 kept_plain base zero c r t below = refl
 kept_plain base (suc zero) c r t below = refl
 kept_plain base (suc (suc n)) c r t below = absurd (omega (arith, below))
@@ -79,6 +81,7 @@ plain_kept d size is overlaid =
     subst (λ (k : Device). IsDevice k size) shape is in
     record {
       enough = here.enough;
+      ends = here.ends;
       geometry = here.geometry;
       control = here.control;
       phase = inl refl;
@@ -161,10 +164,12 @@ module _
         version_there (overlaid_by false d.mark) new
         (set_here old 2048 (mark_spelling (overlaid_by false d.mark)) 2048 refl)
 
-    one : (t : Table) × (r.tables ≡ t ∷ []) × (table_at size r.geometry r.mark.slot old ≡ Ok t)
+    one : (t : Table) × (r.tables ≡ t ∷ [])
+        × (table_at r.tail.super_end r.geometry r.mark.slot old ≡ Ok t)
     one =
-        one_of size r.geometry r.mark.slot old r.tables
-        (subst (λ p. tables_in size r.geometry p.tables old ≡ Ok r.tables) (idle_at r.mark phase)
+        one_of r.tail.super_end r.geometry r.mark.slot old r.tables
+        (subst (λ p. tables_in r.tail.super_end r.geometry p.tables old ≡ Ok r.tables)
+        (idle_at r.mark phase)
         is.reads.tables)
 
     shape : r ≡ read_by (record r.mark { phase = marks.Idle }) r one.0
@@ -172,6 +177,7 @@ module _
       mark = record r.mark { phase = phase i };
       statuses = r.statuses;
       control = r.control;
+      tail = r.tail;
       geometry = r.geometry;
       tables = one.1 i;
       scanned = r.scanned;
@@ -208,12 +214,12 @@ module _
         ∙ ap (λ (c : Control). first_fault (slot_checks r.mark.slot c)) (sym seen)
         ∙ single_works r (ap has_both phase) is.reads.state
 
-    table_new : table_at size r.geometry r.mark.slot new ≡ Ok one.0
+    table_new : table_at r.tail.super_end r.geometry r.mark.slot new ≡ Ok one.0
     table_new =
-        let same = tables_agree size r.geometry (r.mark.slot ∷ []) old new of_tables in
-        let here : tables_in size r.geometry (r.mark.slot ∷ []) old ≡ Ok (one.0 ∷ []) =
+        let same = tables_agree r.tail.super_end r.geometry (r.mark.slot ∷ []) old new of_tables in
+        let here : tables_in r.tail.super_end r.geometry (r.mark.slot ∷ []) old ≡ Ok (one.0 ∷ []) =
         rw one.2 refl in
-        let there = one_of size r.geometry r.mark.slot new (one.0 ∷ []) (same ∙ here) in
+        let there = one_of r.tail.super_end r.geometry r.mark.slot new (one.0 ∷ []) (same ∙ here) in
         let both : one.0 ∷ [] ≡ there.0 ∷ [] = there.1 in
         there.2 ∙ (let e : there.0 ≡ one.0 = cc in ap Ok e)
 
@@ -227,20 +233,24 @@ module _
         (mark_there (overlaid_by false d.mark) new refl bare read
         (set_here old 2048 (mark_spelling (overlaid_by false d.mark)) 2048 refl))
 
-    reads : Reads size (idle_read (overlaid_by false r.mark) d.control r.geometry one.0) new
+    reads : Reads size (idle_read (overlaid_by false r.mark) d.control r.tail r.geometry one.0) new
     reads =
         reads_idle size new (overlaid_by false r.mark) is.reads.enough mark_new refl d.control
-        r.geometry
+        r.tail r.geometry
         one.0 refl
         (control_seen_in _ _ new d.control control_new)
-        (geometry_same size old new
+        (tail_kept r.mark.physical size old new
+        (λ some. elsewhere 2113 (λ e. omega (arith, e)))
+        ∙ is.reads.tail)
+        (geometry_same r.tail.super_end old new
         (elsewhere 4104 (λ e. omega (arith, e)))
         (elsewhere 4112 (λ e. omega (arith, e)))
         ∙ is.reads.geometry)
         table_new own_rules runs
 
     kept_is : next
-        ≡ kept_with (idle_read (overlaid_by false r.mark) d.control r.geometry one.0) d.control
+        ≡ kept_with (idle_read (overlaid_by false r.mark) d.control r.tail r.geometry one.0)
+        d.control
     kept_is =
         ap without_overlay
         (is.is ∙ ap (λ (x : Read). kept_with x d.control) shape)
@@ -262,7 +272,7 @@ module _
 
     represents : Represents next size new
     represents = record {
-      read = idle_read (overlaid_by false r.mark) d.control r.geometry one.0;
+      read = idle_read (overlaid_by false r.mark) d.control r.tail r.geometry one.0;
       reads = reads;
       is = kept_is;
       control = control_new;

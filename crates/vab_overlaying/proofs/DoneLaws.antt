@@ -56,15 +56,16 @@ over_kept : (d : Device) (size : ℕ) (p : Part) (block : ℕ) (now : List Excep
     → IsDevice (with_over d p now) size
 over_kept d size p block now is over inside grows =
     let on = overlaid_on d size p is over in
-    let x : IsOverlaidOn size on.0 p = on.2 in
-    let part = subst (IsPart size) (shape size on.0 p x) x.part in
+    let x : IsOverlaidOn d.tail.super_end on.0 p = on.2 in
+    let part = subst (IsPart d.tail.super_end) (shape d.tail.super_end on.0 p x) x.part in
     let was = subst
     (λ (q : Part). Fits One (length p.map) (blocks_there q.store) (exceptions_in q.image))
-    (sym (shape size on.0 p x)) part.store.1 in
+    (sym (shape d.tail.super_end on.0 p x)) part.store.1 in
     let fits : Fits One (length p.map) x.store now =
     subst (λ (xs : List ℕ). Fits One (length p.map) xs now) (ap blocks_there x.stored)
     (grows (length p.map) inside was) in
-    let next : IsPart size (record p { store = Some x.store; image = images.Written One now })
+    let next : IsPart d.tail.super_end
+    (record p { store = Some x.store; image = images.Written One now })
     = record {
       name = part.name;
       on_disk = part.on_disk;
@@ -72,10 +73,11 @@ over_kept d size p block now is over inside grows =
       small = part.small;
       store = (part.store.0, fits);
     } in
-    let overlay : IsOverlaidOn size on.0 (with_list p now) = record {
+    let overlay : IsOverlaidOn d.tail.super_end on.0 (with_list p now) = record {
       part =
           subst (λ (o : Option (List ℕ)).
-          IsPart size (record p { store = o; image = images.Written One now })) (sym x.stored) next;
+          IsPart d.tail.super_end (record p { store = o; image = images.Written One now }))
+          (sym x.stored) next;
       store = x.store;
       exceptions = now;
       stored = x.stored;
@@ -85,6 +87,7 @@ over_kept d size p block now is over inside grows =
     } in
     record {
       enough = is.enough;
+      ends = is.ends;
       geometry = is.geometry;
       control = is.control;
       phase = is.phase;
@@ -105,7 +108,8 @@ over_kept d size p block now is over inside grows =
       update = is.update;
       overlaid = ap is_some (sym over) ∙ is.overlaid;
       overlay =
-          subst (λ (ps : Option (List Part)). IsOverlay size ps (Some (with_list p now)))
+          subst
+          (λ (ps : Option (List Part)). IsOverlay d.tail.super_end ps (Some (with_list p now)))
           (sym on.1) overlay;
     }
 
@@ -323,7 +327,7 @@ module _ {D : Type 0} (g : Ghosts D) (d : Device) (p : Part) (over : d.overlay �
       → length (bytes_at (g.seen old) (sectors_read p)) ≡ 4096 * length p.map
   bytes_there t =
       let on = overlaid_on d (g.size old) p dev over in
-      over_long (g.size old) on.0 p on.2 (g.seen old) (whole t)
+      over_long d.tail.super_end on.0 p on.2 (g.size old) dev.ends (g.seen old) (whole t)
 
   abbrev needed : ℕ
   needed = need_of (length (exceptions_in p.image) + 1)

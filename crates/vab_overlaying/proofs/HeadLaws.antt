@@ -80,13 +80,13 @@ module _
   at = (layout_of t).device.first_logical_sector
 
   abbrev r : Read
-  r = read_at d.mark d.control d.geometry t
+  r = read_at d.mark d.control d.tail d.geometry t
 
   -- a sector of the store
   abbrev pub OfStore : ℕ → Type 0
   OfStore s = IsOfBlocks (sectors_of (layout_of t).device.first_logical_sector o.store.blocks) s
 
-  of : IsTableOf size d.geometry d.mark.slot t
+  of : IsTableOf d.tail.super_end d.geometry d.mark.slot t
   of = kept_table d size t dev own
 
   behind_copies : copies_end d.geometry ≤ 512 * at
@@ -125,7 +125,8 @@ module _
   not_parts s [] within parts is = absurd parts
   not_parts s (p ∷ ps) within (inl here) is =
       sectors_apart at p.blocks o.store.blocks s
-      (apart_one size d.mark.slot d.geometry t dev.enough of o by p (within p (first p ps)))
+      (apart_one d.tail.super_end d.mark.slot d.geometry t dev.enough of o by p
+      (within p (first p ps)))
       here is
   not_parts s (p ∷ ps) within (inr there) is =
       not_parts s ps (λ q c. within q (later p ps q c)) there is
@@ -136,11 +137,12 @@ module _
       not_parts s (own_parts d.mark.slot (layout_of t).parts) (λ p c. c) parts is
 
   -- nothing is read of it
-  pub store_misses : Misses (read_at d.mark d.control d.geometry t) OfStore
+  pub store_misses : Misses (read_at d.mark d.control d.tail d.geometry t) OfStore
   store_misses s (Live.of_mark at_mark) is = not_low s (omega (arith, at_mark)) is
   store_misses s (Live.of_statuses read _) is =
       absurd (let no : false ≡ true = read in cc)
   store_misses s (Live.of_control at_control) is = not_low s (omega (arith, at_control)) is
+  store_misses s (Live.of_sizes some at_sizes) is = not_low s (omega (arith, at_sizes)) is
   store_misses s (Live.of_geometry (inl e)) is = not_low s (omega (arith, e)) is
   store_misses s (Live.of_geometry (inr e)) is = not_low s (omega (arith, e)) is
   store_misses s (Live.of_tables tables) is = not_tables s tables is
@@ -155,7 +157,7 @@ module _
   -- writes into its first blocks are dead
   pub head_dead : (n : ℕ)
       → n ≤ length (sectors_of (layout_of t).device.first_logical_sector o.store.blocks)
-      → Dead size (read_at d.mark d.control d.geometry t) old
+      → Dead size (read_at d.mark d.control d.tail d.geometry t) old
       (InSectors
       (InFirst (sectors_of (layout_of t).device.first_logical_sector o.store.blocks) n))
   head_dead n le =

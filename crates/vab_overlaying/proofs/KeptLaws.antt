@@ -23,7 +23,7 @@ module _
     (kept : IsDevice d size)
     (idle : d.mark.phase ≡ marks.Idle)
     (plain : d.mark.overlaid ≡ false)
-    (new_table : IsTableOf size d.geometry d.mark.slot u) where
+    (new_table : IsTableOf d.tail.super_end d.geometry d.mark.slot u) where
   pub table_kept : IsDevice (with_table d u) size
   table_kept = elim (cases_slot d.mark.slot kept.slot) [
     | inl e ↦
@@ -67,13 +67,15 @@ over_kept d size p store kept over =
     let has : (slot : ℕ) → has_slot d.mark.phase d.mark.slot slot
     ≡ has_slot marks.Idle d.mark.slot slot =
     λ slot. ap (λ (ph : MarkPhase). has_slot ph d.mark.slot slot) over.idle in
-    let on : IsOverlaidOn size (parts_of d.mark.slot (layout_of t)) (over_part p store) =
-    subst (λ (q : Part). IsOverlaidOn size (parts_of d.mark.slot (layout_of t)) q)
+    let on : IsOverlaidOn d.tail.super_end (parts_of d.mark.slot (layout_of t))
+    (over_part p store) =
+    subst (λ (q : Part). IsOverlaidOn d.tail.super_end (parts_of d.mark.slot (layout_of t)) q)
     (λ i. over_part (sym over.part i) (sym over.stored i))
-    (is_overlaid_on size d.mark.slot d.geometry t kept.enough
+    (is_overlaid_on d.tail.super_end d.mark.slot d.geometry t kept.enough
     (kept_table d size t kept over.is) over.over over.by over.two) in
     record {
       enough = kept.enough;
+      ends = kept.ends;
       geometry = kept.geometry;
       control = kept.control;
       phase = inl refl;
@@ -98,6 +100,7 @@ over_kept d size p store kept over =
           (kept.target ∙ ap reads_both over.idle);
       overlaid = refl;
       overlay =
-          subst (λ (ps : Option (List Part)). IsOverlay size ps (Some (over_part p store)))
+          subst
+          (λ (ps : Option (List Part)). IsOverlay d.tail.super_end ps (Some (over_part p store)))
           (sym over.parts) on;
     }

@@ -33,8 +33,8 @@ use Rattle.vab_device.specs.Stores.{Scanned, scans_in}
 use Rattle.vab_device.proofs.MostLaws.{parts_under}
 use Rattle.vab_device.proofs.PartBlocks.{block_behind, sectors_disjoint}
 use Rattle.vab_device.proofs.PhaseCases.{unplanned_of}
-use Rattle.vab_device.proofs.SameLaws.{mark_same, version_same, control_same, geometry_same}
-use Rattle.vab_device.proofs.SameLaws.{tables_agree, images_same}
+use Rattle.vab_device.proofs.SameLaws.{mark_same, version_same, control_same, tail_kept}
+use Rattle.vab_device.proofs.SameLaws.{geometry_same, tables_agree, images_same}
 use Rattle.vab_device.proofs.StayLaws.{copy_stays, copies_from}
 use Rattle.vab_device.proofs.StoreLaws.{statuses_kept}
 use Rattle.vab_device.proofs.UpdateLaws.{kept_with}
@@ -53,6 +53,7 @@ over_read base slot r t x = record {
   mark = record base { phase = marks.Idle; slot = slot; overlaid = true };
   statuses = r.statuses;
   control = r.control;
+  tail = r.tail;
   geometry = r.geometry;
   tables = t ∷ [];
   scanned = x ∷ [];
@@ -147,6 +148,7 @@ module _ (d : Device) (size : ℕ) (old : Image) (dev : IsDevice d size)
     mark = record r.mark { phase = i.phase k; overlaid = i.overlaid k };
     statuses = r.statuses;
     control = r.control;
+    tail = r.tail;
     geometry = r.geometry;
     tables = i.tables k;
     scanned = i.scanned k;
@@ -161,18 +163,18 @@ module _ (d : Device) (size : ℕ) (old : Image) (dev : IsDevice d size)
   below : r.mark.slot < 2
   below = of.slot
 
-  table_is : IsTableOf size r.geometry r.mark.slot i.table
-  table_is = table_kept size r.mark.slot r.geometry i.table below of.table_a of.table_b
+  table_is : IsTableOf r.tail.super_end r.geometry r.mark.slot i.table
+  table_is = table_kept r.tail.super_end r.mark.slot r.geometry i.table below of.table_a of.table_b
 
   -- ---- the partition and its store
 
-  on : (ps : List Part) × (parts_at d d.mark.slot ≡ Some ps) × IsOverlaidOn size ps p
+  on : (ps : List Part) × (parts_at d d.mark.slot ≡ Some ps) × IsOverlaidOn d.tail.super_end ps p
   on = overlaid_on d size p dev over
 
-  pub part_kept : IsPart size (part_by i.table i.over i.exceptions)
-  part_kept = subst (IsPart size) i.part on.2.part
+  pub part_kept : IsPart d.tail.super_end (part_by i.table i.over i.exceptions)
+  part_kept = subst (IsPart d.tail.super_end) i.part on.2.part
 
-  pub store_is : IsStore size base store
+  pub store_is : IsStore d.tail.super_end base store
   store_is = part_kept.store.0
 
   pub fits : Fits One (length base) store i.exceptions
@@ -281,11 +283,15 @@ module _ (d : Device) (size : ℕ) (old : Image) (dev : IsDevice d size)
       mark = mark_same old new (before 2048 (omega arith)) ∙ was.mark;
       statuses = statuses_kept false old new version (λ no. absurd cc) ∙ was.statuses;
       control = control_same _ _ old new (before 4 (omega arith)) ∙ was.control;
-      geometry = geometry_same size old new
+      tail =
+          tail_kept r.mark.physical size old new (λ some. before 2113 (omega arith)) ∙ was.tail;
+      geometry = geometry_same r.tail.super_end old new
           (before 4104 (omega arith))
           (before 4112 (omega arith))
           ∙ was.geometry;
-      tables = tables_agree size r.geometry (r.mark.slot ∷ []) old new of_tables ∙ was.tables;
+      tables =
+          tables_agree r.tail.super_end r.geometry (r.mark.slot ∷ []) old new of_tables
+          ∙ was.tables;
       parts = parts_under next old new version was.parts;
       stores = stores;
       state = was.state;

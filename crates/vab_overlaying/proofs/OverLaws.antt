@@ -47,14 +47,15 @@ module _
   over_on_disk =
       subst (λ (l : List ℕ). IsOnDisk l size) (sym over.stored)
       (λ i below.
-      store_on_disk size d.mark.slot d.geometry over.table dev.enough
-      (kept_table d size over.table dev over.is) over.over over.by i 0 below)
+      let on = store_on_disk d.tail.super_end d.mark.slot d.geometry over.table dev.enough
+      (kept_table d size over.table dev over.is) over.over over.by i 0 below in
+      omega (arith, on, dev.ends))
 
   pub over_apart : IsApart store
   over_apart =
       subst IsApart (sym over.stored)
       (blocks_apart at over.over.store.blocks
-      (store_distinct size d.mark.slot d.geometry over.table dev.enough
+      (store_distinct d.tail.super_end d.mark.slot d.geometry over.table dev.enough
       (kept_table d size over.table dev over.is) over.over over.by))
 
   pub in_head : (s : ℕ) (b : List ℕ) → InFirst store 2 s → IsOfHead d store s b
@@ -66,7 +67,7 @@ module _
       → device size image ≡ Ok (mounted_on d old)
   over_dead old image is but =
       let st = stands_idle d size old over.table dev.slot over.idle over.plain over.is is in
-      device_same size (read_at d.mark d.control d.geometry over.table) old image st.reads
+      device_same size (read_at d.mark d.control d.tail d.geometry over.table) old image st.reads
       (head_dead d size old over.table dev over.is st over.over over.by 2
       (omega (arith, over.two, sectors_long at over.over.store.blocks)) image
       (subst (λ (l : List ℕ). SameBut (InSectors (InFirst l 2)) old image) over.stored but))

@@ -190,7 +190,7 @@ pub record IsOver (d : Device) (size : ℕ) (image : Image) (r : Read) (p : Part
   pub overlaid : r.mark.overlaid ≡ true
   pub table : Table
   pub tables : r.tables ≡ table ∷ []
-  pub there : table_at size r.geometry r.mark.slot image ≡ Ok table
+  pub there : table_at r.tail.super_end r.geometry r.mark.slot image ≡ Ok table
   pub over : Overlaid
   pub found : overlaid_in r.mark.slot (layout_of table).parts ≡ Some over
   pub exceptions : List Exception
@@ -215,10 +215,12 @@ module _ (d : Device) (size : ℕ) (image : Image) (dev : IsDevice d size)
   phase : r.mark.phase ≡ marks.Idle
   phase = ap (λ (m : UpdateMark). m.phase) own_mark ∙ overlaid_idle d.mark dev.flags flag
 
-  one : (t : Table) × (r.tables ≡ t ∷ []) × (table_at size r.geometry r.mark.slot image ≡ Ok t)
+  one : (t : Table) × (r.tables ≡ t ∷ [])
+      × (table_at r.tail.super_end r.geometry r.mark.slot image ≡ Ok t)
   one =
-      one_of size r.geometry r.mark.slot image r.tables
-      (subst (λ p. tables_in size r.geometry p.tables image ≡ Ok r.tables) (idle_at r.mark phase)
+      one_of r.tail.super_end r.geometry r.mark.slot image r.tables
+      (subst (λ p. tables_in r.tail.super_end r.geometry p.tables image ≡ Ok r.tables)
+      (idle_at r.mark phase)
       is.reads.tables)
 
   abbrev l : Layout

@@ -23,6 +23,7 @@ use Rattle.vab_store.proofs.CleanLaws.{clean_kept}
 use Rattle.vab_store.proofs.ReachedLaws.{scan_kept}
 use Rattle.vab_geometry.specs.declared.geometry.Geometry.{Geometry}
 use Rattle.vab_tables.specs.declared.table.Table.{Table}
+use Rattle.vab_physical.specs.declared.tail.Tail.{Tail}
 use Rattle.vab_blocks.proofs.Distinct.{pairs_distinct}
 use Rattle.vab_layout.specs.declared.layout.Layout.{Layout}
 use Rattle.vab_layout.specs.Layout.{layout_of, blocks_of_parts}
@@ -55,7 +56,7 @@ use Rattle.vab_device.proofs.OpeningLaws.{control_seen_in}
 use Rattle.vab_device.proofs.PartBlocks.{block_behind, sectors_apart, sector_at, sectors_long}
 use Rattle.vab_device.proofs.PhaseCases.{unplanned_of}
 use Rattle.vab_device.proofs.ReadingLaws.{single_works}
-use Rattle.vab_device.proofs.SameLaws.{geometry_same, tables_agree, images_same}
+use Rattle.vab_device.proofs.SameLaws.{tail_kept, geometry_same, tables_agree, images_same}
 use Rattle.vab_device.proofs.StayLaws.{mark_there, version_there, copy_stays, copies_from}
 use Rattle.vab_device.proofs.Steps.{marked, IsStep}
 use Rattle.vab_device.proofs.UpdateLaws.{kept_with}
@@ -75,8 +76,8 @@ abbrev pub blank_scan : Overlaid → Scanned
 blank_scan o = record { name = o.part.name; chunk = One; exceptions = [] }
 
 -- the reading of a device with that partition overlaid
-abbrev pub over_read : UpdateMark → Control → Geometry → Table → Overlaid → Read
-over_read m c g t o = record (idle_read (overlaid_by true m) c g t) {
+abbrev pub over_read : UpdateMark → Control → Tail → Geometry → Table → Overlaid → Read
+over_read m c tail g t o = record (idle_read (overlaid_by true m) c tail g t) {
   scanned = blank_scan o ∷ [];
 }
 
@@ -89,17 +90,17 @@ over_is : (slot : ℕ) (l : Layout) (o : Overlaid)
     (sectors_of l.device.first_logical_sector o.store.blocks))
 over_is slot l o one = rw (one, eq_name o.part.name o.part.name refl) refl
 
-kept_over : (m : UpdateMark) (slot : ℕ) (c seen : Control) (g : Geometry) (t : Table) (o : Overlaid)
-    (p : Part) (store : List ℕ)
+kept_over : (m : UpdateMark) (slot : ℕ) (c seen : Control) (tail : Tail) (g : Geometry) (t : Table)
+    (o : Overlaid) (p : Part) (store : List ℕ)
     → slot < 2
     → overlay_of true slot (layout_of t) (blank_scan o ∷ []) ≡ Some (over_part p store)
-    → over_device (kept_with (read_at (resloted slot m) seen g t) c) p store
-    ≡ kept_with (over_read (resloted slot m) seen g t o) c
-kept_over m zero c seen g t o p store below is =
-    (λ i. record (kept_with (over_read (resloted 0 m) seen g t o) c) { overlay = sym is i })
-kept_over m (suc zero) c seen g t o p store below is =
-    (λ i. record (kept_with (over_read (resloted 1 m) seen g t o) c) { overlay = sym is i })
-kept_over m (suc (suc n)) c seen g t o p store below is = absurd (omega (arith, below))
+    → over_device (kept_with (read_at (resloted slot m) seen tail g t) c) p store
+    ≡ kept_with (over_read (resloted slot m) seen tail g t o) c
+kept_over m zero c seen tail g t o p store below is =
+    (λ i. record (kept_with (over_read (resloted 0 m) seen tail g t o) c) { overlay = sym is i })
+kept_over m (suc zero) c seen tail g t o p store below is =
+    (λ i. record (kept_with (over_read (resloted 1 m) seen tail g t o) c) { overlay = sym is i })
+kept_over m (suc (suc n)) c seen tail g t o p store below is = absurd (omega (arith, below))
 
 -- ---- the rules, and the store
 
@@ -205,7 +206,7 @@ module _
   st : StandsIdle d size old over.table
   st = stands_idle d size old over.table dev.slot over.idle over.plain over.is is
 
-  of : IsTableOf size d.geometry d.mark.slot over.table
+  of : IsTableOf d.tail.super_end d.geometry d.mark.slot over.table
   of = kept_table d size over.table dev over.is
 
   long : 2 ≤ length blocks
@@ -256,7 +257,7 @@ module _
       (none_bad most_partitions d.mark.slot (layout_of t).parts of.own of.own.few)
 
   all_rules : part_fault most_partitions
-      (over_read d.mark d.control d.geometry over.table over.over)
+      (over_read d.mark d.control d.tail d.geometry over.table over.over)
       ≡ None
   all_rules =
       three_kept (own_check most_partitions d.mark.slot t)
@@ -286,7 +287,8 @@ module _
       (λ s reached. elsewhere s (reached_elsewhere at o.store.blocks 0 s reached))
       ∙ subst (λ (l : List ℕ). ends_clean l 0 mid ≡ true) over.stored clean
 
-  stores_new : scans_in (stores_of (over_read d.mark d.control d.geometry over.table over.over)) new
+  stores_new : scans_in
+      (stores_of (over_read d.mark d.control d.tail d.geometry over.table over.over)) new
       ≡ Ok (blank_scan over.over ∷ [])
   stores_new =
       ap (λ (x : Option Overlaid). scans_in (wanted_over (layout_of t) x) new) over.one
@@ -294,11 +296,12 @@ module _
       (scan_new (length (sectors_of at o.part.blocks)))
       clean_new
 
-  tables_new : tables_in size d.geometry (d.mark.slot ∷ []) new ≡ Ok (over.table ∷ [])
+  tables_new : tables_in d.tail.super_end d.geometry (d.mark.slot ∷ []) new ≡ Ok (over.table ∷ [])
   tables_new =
-      tables_agree size d.geometry (d.mark.slot ∷ []) old new of_tables ∙ st.reads.tables
+      tables_agree d.tail.super_end d.geometry (d.mark.slot ∷ []) old new of_tables
+      ∙ st.reads.tables
 
-  reads_new : Reads size (over_read d.mark d.control d.geometry over.table over.over) new
+  reads_new : Reads size (over_read d.mark d.control d.tail d.geometry over.table over.over) new
   reads_new = record {
     enough = st.reads.enough;
     mark = mark_there (overlaid_by true d.mark) new refl
@@ -306,17 +309,21 @@ module _
         (set_here mid 2048 (mark_spelling (overlaid_by true d.mark)) 2048 refl);
     statuses = no_statuses;
     control = control_seen_in (d.mark.slot == 0) (d.mark.slot == 1) new d.control control_new;
+    tail =
+        tail_kept d.mark.physical size old new
+        (λ some. low 2113 (λ e. omega (arith, e)) (omega arith))
+        ∙ st.reads.tail;
     geometry =
-        geometry_same size old new
+        geometry_same d.tail.super_end old new
         (low 4104 (λ e. omega (arith, e)) (omega arith))
         (low 4112 (λ e. omega (arith, e)) (omega arith))
         ∙ st.reads.geometry;
     tables = tables_new;
     parts =
-        parts_two (over_read d.mark d.control d.geometry over.table over.over) new version_new
-        all_rules;
+        parts_two (over_read d.mark d.control d.tail d.geometry over.table over.over) new
+        version_new all_rules;
     stores = stores_new;
-    state = single_works (read_at d.mark d.control d.geometry t) refl st.reads.state;
+    state = single_works (read_at d.mark d.control d.tail d.geometry t) refl st.reads.state;
   }
 
   overlay_now : overlay_of true d.mark.slot (layout_of over.table) (blank_scan over.over ∷ [])
@@ -327,11 +334,12 @@ module _
 
   pub represents_over : Represents (over_device d p store) size new
   represents_over = record {
-    read = over_read d.mark d.control d.geometry over.table over.over;
+    read = over_read d.mark d.control d.tail d.geometry over.table over.over;
     reads = reads_new;
     is =
         ap (λ (x : Device). over_device x p store) st.is
-        ∙ kept_over d.mark d.mark.slot d.control d.control g t o p store dev.slot overlay_now;
+        ∙ kept_over d.mark d.mark.slot d.control d.control d.tail g t o p store dev.slot
+        overlay_now;
     control = control_new;
     copies = (
       (
@@ -350,9 +358,9 @@ module _
   images_a =
       images_same old new d.a
       (λ s there.
-      let here : IsOfImages (kept (read_at d.mark d.control d.geometry t)).a s =
+      let here : IsOfImages (kept (read_at d.mark d.control d.tail d.geometry t)).a s =
       subst (λ (k : Device). IsOfImages k.a s) st.is there in
-      let from = images_behind size 4096 0 _ _ (read_at d.mark d.control d.geometry t) old s
+      let from = images_behind size 4096 0 _ _ (read_at d.mark d.control d.tail d.geometry t) old s
       st.reads (omega arith) here in
       agree s (λ e. omega (arith, e, from))
       (not_own d size old t dev over.is st o over.by s (of_images d.mark.slot 0 t s here)))
@@ -361,9 +369,9 @@ module _
   images_b =
       images_same old new d.b
       (λ s there.
-      let here : IsOfImages (kept (read_at d.mark d.control d.geometry t)).b s =
+      let here : IsOfImages (kept (read_at d.mark d.control d.tail d.geometry t)).b s =
       subst (λ (k : Device). IsOfImages k.b s) st.is there in
-      let from = images_behind size 4096 1 _ _ (read_at d.mark d.control d.geometry t) old s
+      let from = images_behind size 4096 1 _ _ (read_at d.mark d.control d.tail d.geometry t) old s
       st.reads (omega arith) here in
       agree s (λ e. omega (arith, e, from))
       (not_own d size old t dev over.is st o over.by s (of_images d.mark.slot 1 t s here)))
@@ -377,7 +385,8 @@ module _
       agree s (λ e. omega (arith, e, block_behind at o.part.blocks s here))
       (λ of_store.
       sectors_apart at o.part.blocks o.store.blocks s
-      (apart_one size d.mark.slot d.geometry t dev.enough of o over.by o.part over.by.own)
+      (apart_one d.tail.super_end d.mark.slot d.geometry t dev.enough of o over.by o.part
+      over.by.own)
       here of_store))
 
   means : mounted_on (over_device d p store) new

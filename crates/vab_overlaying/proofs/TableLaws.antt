@@ -10,6 +10,7 @@ use Rattle.vab_marks.specs.Mark.{resloted}
 use Rattle.vab_geometry.specs.declared.geometry.Geometry.{Geometry}
 use Rattle.vab_geometry.specs.Geometry.{IsGeometry}
 use Rattle.vab_tables.specs.declared.table.Table.{Table}
+use Rattle.vab_physical.specs.declared.tail.Tail.{Tail}
 use Rattle.vab_tables.specs.Text.{IsTableText}
 use Rattle.vab_lpstore.specs.Layout.{copy_sectors, BothHold}
 use Rattle.vab_lpstore.specs.Storing.{SameElsewhere, LeavesEitherTable}
@@ -30,22 +31,23 @@ use Rattle.vab_overlaying.specs.Begun.{with_table}
 use Rattle.vab_device.proofs.BehindLaws.{LeavesMounted}
 
 -- the kept device of the new table
-kept_stored : (m : UpdateMark) (slot : ℕ) (c seen : Control) (g : Geometry) (t u : Table)
+kept_stored : (m : UpdateMark) (slot : ℕ) (c seen : Control) (tail : Tail) (g : Geometry)
+    (t u : Table)
     → slot < 2
     → plain slot (layout_of u) ≡ plain slot (layout_of t)
-    → with_table (kept_with (read_at (resloted slot m) seen g t) c) u
-    ≡ kept_with (read_at (resloted slot m) seen g u) c
-kept_stored m zero c seen g t u below is =
-    (λ i. record (kept_with (read_at (resloted 0 m) seen g u) c) {
+    → with_table (kept_with (read_at (resloted slot m) seen tail g t) c) u
+    ≡ kept_with (read_at (resloted slot m) seen tail g u) c
+kept_stored m zero c seen tail g t u below is =
+    (λ i. record (kept_with (read_at (resloted 0 m) seen tail g u) c) {
       cap = sym (cap_is 0 t u is) i;
       groups = sym (limits_are 0 t u is) i;
     })
-kept_stored m (suc zero) c seen g t u below is =
-    (λ i. record (kept_with (read_at (resloted 1 m) seen g u) c) {
+kept_stored m (suc zero) c seen tail g t u below is =
+    (λ i. record (kept_with (read_at (resloted 1 m) seen tail g u) c) {
       cap = sym (cap_is 1 t u is) i;
       groups = sym (limits_are 1 t u is) i;
     })
-kept_stored m (suc (suc n)) c seen g t u below is = absurd (omega (arith, below))
+kept_stored m (suc (suc n)) c seen tail g t u below is = absurd (omega (arith, below))
 
 -- ---- what stays of the kept device
 
@@ -76,7 +78,7 @@ module _
     (st : StandsIdle d size old t)
     (below : d.mark.slot < 2)
     (geometry : IsGeometry d.geometry)
-    (lies : lies_in size d.geometry (layout_of t).device ≡ true)
+    (lies : lies_in d.tail.super_end d.geometry (layout_of t).device ≡ true)
     (is : plain d.mark.slot (layout_of u) ≡ plain d.mark.slot (layout_of t))
     (fits : n ≤ copy_sectors d.geometry)
     (others : SameElsewhere d.geometry d.mark.slot n old image) where
@@ -86,14 +88,14 @@ module _
       → BothHold d.geometry d.mark.slot text image
       → Represents (with_table d u) size image
   represents_stored text of_text held = record {
-    read = read_at d.mark d.control d.geometry u;
+    read = read_at d.mark d.control d.tail d.geometry u;
     reads =
         reads_alike d size n old image t u st below geometry lies is fits others
         (both_table d.geometry d.mark.slot text u image held of_text);
     is =
         ap (λ (x : Device). with_table x u) st.is
-        ∙ kept_stored d.mark d.mark.slot d.control d.control d.geometry t u below is
-        ∙ ap (kept_with (read_at d.mark d.control d.geometry u)) (sym (control_stays d u));
+        ∙ kept_stored d.mark d.mark.slot d.control d.control d.tail d.geometry t u below is
+        ∙ ap (kept_with (read_at d.mark d.control d.tail d.geometry u)) (sym (control_stays d u));
     control =
         control_alike d size n old image t u st below geometry lies is fits others
         ∙ ap Ok (sym (control_stays d u));
@@ -110,7 +112,7 @@ pub leaves_stored : (d : Device) (size n : ℕ) (old : Image) (t u : Table) (tol
     → StandsIdle d size old t
     → d.mark.slot < 2
     → IsGeometry d.geometry
-    → lies_in size d.geometry (layout_of t).device ≡ true
+    → lies_in d.tail.super_end d.geometry (layout_of t).device ≡ true
     → plain d.mark.slot (layout_of u) ≡ plain d.mark.slot (layout_of t)
     → n ≤ copy_sectors d.geometry
     → LeavesEitherTable told d.geometry d.mark.slot n old t u o
@@ -120,8 +122,8 @@ leaves_stored d size n old t u told o is st below geometry lies same fits leaves
   means =
       ⊎_elim
       (λ was.
-      device_same size (read_at d.mark d.control d.geometry t) old o.image st.reads
-      (repair_same size n d.mark.slot (read_at d.mark d.control d.geometry t) old o.image
+      device_same size (read_at d.mark d.control d.tail d.geometry t) old o.image st.reads
+      (repair_same size n d.mark.slot (read_at d.mark d.control d.tail d.geometry t) old o.image
       geometry below below fits st.reads leaves.others
       (was
       ∙ sym (both_table d.geometry d.mark.slot st.copies.0.0 t old st.copies.0.2 st.copies.0.1))))
@@ -137,7 +139,7 @@ pub mounted_behind : (d : Device) (size n : ℕ) (old new : Image) (t u : Table)
     → StandsIdle d size old t
     → d.mark.slot < 2
     → IsGeometry d.geometry
-    → lies_in size d.geometry (layout_of t).device ≡ true
+    → lies_in d.tail.super_end d.geometry (layout_of t).device ≡ true
     → plain d.mark.slot (layout_of u) ≡ plain d.mark.slot (layout_of t)
     → n ≤ copy_sectors d.geometry
     → SameElsewhere d.geometry d.mark.slot n old new

@@ -83,7 +83,8 @@ module _ (d : Device) (size : ℕ) (old : Image) (dev : IsDevice d size)
       ≡ wanting true (does replies.Done after)
   effect room =
       let on = overlaid_on d size p dev over in
-      is_done d old block p over from long (over_long size on.0 p on.2 old whole) inside
+      is_done d old block p over from long
+      (over_long d.tail.super_end on.0 p on.2 size dev.ends old whole) inside
       (subst
       (λ (q : Part). need_of (length (overlay_by old q).blocks + 1) ≤ (overlay_by old q).store)
       (sym i.part) (omega (arith, room, length-map es (λ (e : Exception). e.old_chunk))))
@@ -145,7 +146,8 @@ module _ (d : Device) (size : ℕ) (old : Image) (dev : IsDevice d size)
           ∙ blocks_set es block w.entered.chunk in
           let kept = part_kept d size old dev is p over i in
           let bytes = bytes_put map chunks es now old new (fits d size old dev is p over i) fits_now
-          size block from whole kept.on_disk kept.store.0.on_disk below long (w.here map)
+          d.tail.super_end block from (λ s lt. whole s (omega (arith, lt, dev.ends)))
+          kept.on_disk kept.store.0.on_disk below long (w.here map)
           (λ n at other. w.others map n (disjoint d size old dev is p over i) at other) in
           (λ j. record (overlay_by old (part_by i.table i.over es)) {
             blocks = blocks j;

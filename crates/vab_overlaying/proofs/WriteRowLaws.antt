@@ -1,5 +1,5 @@
 -- What a write over the overlaid partition makes of a device.
-use Rattle.std.proofs.Common.{◌≡◌, ◌∙◌, ℕ, ◌+◌, ◌*◌, ◌≤◌, ◌<◌, List, length, refl, sym, ap}
+use Rattle.std.proofs.Common.{◌≡◌, ◌∙◌, ℕ, ◌+◌, ◌*◌, ◌≤◌, ◌<◌, List, length, get_or, refl, sym, ap}
 use Rattle.std.proofs.Common.{subst, arith, true, false, eq-eqb}
 use Rattle.std.specs.Prelude.{Option, Some, None, ◌==◌, nat_le, nat_lt}
 use Rattle.std.proofs.lemmas.Bool.{lt-ltb, le-ltb, le-leb, lt-leb}
@@ -41,44 +41,52 @@ on_slot size (Some ps) p is = (ps, refl, is)
 pub overlaid_on : (d : Device) (size : ℕ) (p : Part)
     → IsDevice d size
     → d.overlay ≡ Some p
-    → (ps : List Part) × (parts_at d d.mark.slot ≡ Some ps) × IsOverlaidOn size ps p
+    → (ps : List Part) × (parts_at d d.mark.slot ≡ Some ps) × IsOverlaidOn d.tail.super_end ps p
 overlaid_on d size p is over =
-    on_slot size (parts_at d d.mark.slot) p
-    (subst (λ (o : Option Part). IsOverlay size (parts_at d d.mark.slot) o) over is.overlay)
+    on_slot d.tail.super_end (parts_at d d.mark.slot) p
+    (subst (λ (o : Option Part). IsOverlay d.tail.super_end (parts_at d d.mark.slot) o) over
+    is.overlay)
 
-module _ (size : ℕ) (ps : List Part) (p : Part) (is : IsOverlaidOn size ps p) where
+module _ (super_end : ℕ) (ps : List Part) (p : Part) (is : IsOverlaidOn super_end ps p) where
   abbrev q : Part
   q = record p { store = Some is.store; image = Written One is.exceptions }
 
   pub shape : p ≡ record p { store = Some is.store; image = Written One is.exceptions }
   shape = (λ i. record p { store = is.stored i; image = is.written i })
 
-  part_is : IsPart size q
-  part_is = subst (IsPart size) shape is.part
+  part_is : IsPart super_end q
+  part_is = subst (IsPart super_end) shape is.part
 
-  -- its blocks are of 4096 bytes each, where each sector is of 512
-  pub over_long : (image : Image)
-      → ((s : ℕ) → s < size → length (image s) ≡ 512)
-      → length (bytes_at image (sectors_read p)) ≡ 4096 * length p.map
-  over_long image whole =
-      ap (λ (x : Part). length (bytes_at image (sectors_read x))) shape
-      ∙ bytes_long p.map is.store is.exceptions image part_is.store.1 size whole part_is.on_disk
-      part_is.store.0.on_disk
+  -- on a disk on which `super` ends
+  module _ (size : ℕ) (ends : super_end ≤ size) where
+    -- its blocks are of 4096 bytes each, where each sector is of 512
+    pub over_long : (image : Image)
+        → ((s : ℕ) → s < size → length (image s) ≡ 512)
+        → length (bytes_at image (sectors_read p)) ≡ 4096 * length p.map
+    over_long image whole =
+        ap (λ (x : Part). length (bytes_at image (sectors_read x))) shape
+        ∙ bytes_long p.map is.store is.exceptions image part_is.store.1 super_end
+        (λ s lt. whole s (omega (arith, lt, ends)))
+        part_is.on_disk
+        part_is.store.0.on_disk
 
-  -- a block of it may be written into its store
-  pub may_over : (block : ℕ)
-      → block < length p.map
-      → MayOverlay (blocks_there p.store) (exceptions_in p.image) block size
-  may_over block inside =
-      let store_on = part_is.store.0.on_disk in
-      subst (λ (x : Part). MayOverlay (blocks_there x.store) (exceptions_in x.image) block size)
-      (sym shape)
-      (record {
-        bound = length p.map;
-        above = inside;
-        fits = part_is.store.1;
-        on_disk = λ i below. All-get_or (λ (s : ℕ). s + 8 ≤ size) is.store i 0 below store_on;
-      })
+    -- a block of it may be written into its store
+    pub may_over : (block : ℕ)
+        → block < length p.map
+        → MayOverlay (blocks_there p.store) (exceptions_in p.image) block size
+    may_over block inside =
+        let store_on = part_is.store.0.on_disk in
+        subst (λ (x : Part). MayOverlay (blocks_there x.store) (exceptions_in x.image) block size)
+        (sym shape)
+        (record {
+          bound = length p.map;
+          above = inside;
+          fits = part_is.store.1;
+          on_disk = λ i below.
+              let on : get_or is.store i 0 + 8 ≤ super_end =
+              All-get_or (λ (s : ℕ). s + 8 ≤ super_end) is.store i 0 below store_on in
+              omega (arith, on, ends);
+        })
 
 -- ---- the machine's row
 

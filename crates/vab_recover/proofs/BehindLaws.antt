@@ -323,16 +323,16 @@ framed_stores f old new x same is =
 pub framed_of : (size : ℕ) (f : Frame) (old new : Image)
     → SameSuper old new
     → IsHeaded size new f.heads.mark f.heads.version f.heads.statuses.items f.heads.control
-    f.heads.geometry
-    → tables_in size f.heads.geometry (phase_at f.heads.mark).tables old
+    f.heads.tail f.heads.geometry
+    → tables_in f.heads.tail.super_end f.heads.geometry (phase_at f.heads.mark).tables old
     ≡ Ok (tables_of f.tables)
     → AreLoaded f.heads.geometry f.heads.mark.slot old f.tables
     → IsFramed size new f
 framed_of size f old new same headed tables loaded = record {
   heads = headed;
   tables =
-      tables_as size f.heads.geometry (phase_at f.heads.mark).tables old
-      new same
+      tables_as f.heads.tail.super_end f.heads.geometry (phase_at f.heads.mark).tables
+      old new same
       ∙ tables;
   loaded = loaded_as f.heads.geometry f.heads.mark.slot old new f.tables same loaded;
 }

@@ -45,6 +45,7 @@ use Rattle.vab_recover.specs.Scans.{AreExceptions, IsScanned}
 use Rattle.vab_recover.specs.Opened.{read_of, target_tables, AreHeads}
 use Rattle.vab_device.proofs.MarkLaws.{not_overlaid}
 use Rattle.vab_device.proofs.OwnParts.{length-sectors_of}
+use Rattle.vab_physical.specs.declared.tail.Tail.{Tail}
 use Rattle.vab_device.proofs.OwnParts.{blocks_on, parts_kept}
 
 -- ---- the partitions that are planned
@@ -190,24 +191,26 @@ pub record IsOverlaidHere
 
 by_case : (size : ℕ) (base : UpdateMark) (phase : MarkPhase) (slot : ℕ)
     (statuses : List (Option PartStatus))
-    (c : Control)
+    (c : Control) (tail : Tail)
     (g : Geometry) (s : Table) (t : Option Loaded) (ss : List Scanned)
-    → AreHeads size (record base { phase = phase; slot = slot }) c g
+    → AreHeads size (record base { phase = phase; slot = slot }) c tail g
     → has_slot phase slot c.current ≡ true
-    → IsTableOf size g slot s
-    → IfSome t (λ l. IsTableOf size g (other_slot slot) l.table)
+    → IsTableOf tail.super_end g slot s
+    → IfSome t (λ l. IsTableOf tail.super_end g (other_slot slot) l.table)
     → IfSome t (λ l. AreOfUpdate base.apart slot s l.table)
     → is_some t ≡ reads_both phase
-    → IfSome t (λ l. AreParts size (plan_of (other_slot slot) (layout_of l.table) ss))
-    → (phase ≡ marks.Merging → AreParts size (plan_of slot (layout_of s) ss))
-    → (phase ≡ marks.Idle → IsOverlaidHere size base.overlaid slot (layout_of s) ss)
-    → AreParts size (parts_of slot (layout_of s))
+    → IfSome t (λ l. AreParts tail.super_end (plan_of (other_slot slot) (layout_of l.table) ss))
+    → (phase ≡ marks.Merging → AreParts tail.super_end (plan_of slot (layout_of s) ss))
+    → (phase ≡ marks.Idle → IsOverlaidHere tail.super_end base.overlaid slot (layout_of s) ss)
+    → AreParts tail.super_end (parts_of slot (layout_of s))
     → (let m : UpdateMark = record base { phase = phase; slot = slot } in
-    IsDevice (record (kept (read_of m statuses c g (s ∷ target_tables t) ss)) { control = c }) size)
-by_case size base marks.Idle zero statuses c g s None ss
+    IsDevice (record (kept (read_of m statuses c tail g (s ∷ target_tables t) ss)) { control = c })
+    size)
+by_case size base marks.Idle zero statuses c tail g s None ss
     heads current source target update both plan own over parts =
     record {
       enough = heads.enough;
+      ends = heads.ends;
       geometry = heads.geometry;
       control = heads.control;
       phase = inl refl;
@@ -229,10 +232,11 @@ by_case size base marks.Idle zero statuses c g s None ss
       overlaid = (over refl).there;
       overlay = (over refl).fits;
     }
-by_case size base marks.Idle (suc zero) statuses c g s None ss
+by_case size base marks.Idle (suc zero) statuses c tail g s None ss
     heads current source target update both plan own over parts =
     record {
       enough = heads.enough;
+      ends = heads.ends;
       geometry = heads.geometry;
       control = heads.control;
       phase = inl refl;
@@ -254,10 +258,11 @@ by_case size base marks.Idle (suc zero) statuses c g s None ss
       overlaid = (over refl).there;
       overlay = (over refl).fits;
     }
-by_case size base marks.Installing zero statuses c g s (Some l) ss
+by_case size base marks.Installing zero statuses c tail g s (Some l) ss
     heads current source target update both plan own over parts =
     record {
       enough = heads.enough;
+      ends = heads.ends;
       geometry = heads.geometry;
       control = heads.control;
       phase = inr (inl refl);
@@ -280,10 +285,11 @@ by_case size base marks.Installing zero statuses c g s (Some l) ss
           sym (not_overlaid (record base { phase = marks.Installing; slot = 0 }) heads.flags refl);
       overlay = tt;
     }
-by_case size base marks.Installing (suc zero) statuses c g s (Some l) ss
+by_case size base marks.Installing (suc zero) statuses c tail g s (Some l) ss
     heads current source target update both plan own over parts =
     record {
       enough = heads.enough;
+      ends = heads.ends;
       geometry = heads.geometry;
       control = heads.control;
       phase = inr (inl refl);
@@ -306,10 +312,11 @@ by_case size base marks.Installing (suc zero) statuses c g s (Some l) ss
           sym (not_overlaid (record base { phase = marks.Installing; slot = 1 }) heads.flags refl);
       overlay = tt;
     }
-by_case size base marks.Staged zero statuses c g s (Some l) ss
+by_case size base marks.Staged zero statuses c tail g s (Some l) ss
     heads current source target update both plan own over parts =
     record {
       enough = heads.enough;
+      ends = heads.ends;
       geometry = heads.geometry;
       control = heads.control;
       phase = inr (inr (inl refl));
@@ -332,10 +339,11 @@ by_case size base marks.Staged zero statuses c g s (Some l) ss
           sym (not_overlaid (record base { phase = marks.Staged; slot = 0 }) heads.flags refl);
       overlay = tt;
     }
-by_case size base marks.Staged (suc zero) statuses c g s (Some l) ss
+by_case size base marks.Staged (suc zero) statuses c tail g s (Some l) ss
     heads current source target update both plan own over parts =
     record {
       enough = heads.enough;
+      ends = heads.ends;
       geometry = heads.geometry;
       control = heads.control;
       phase = inr (inr (inl refl));
@@ -358,31 +366,32 @@ by_case size base marks.Staged (suc zero) statuses c g s (Some l) ss
           sym (not_overlaid (record base { phase = marks.Staged; slot = 1 }) heads.flags refl);
       overlay = tt;
     }
-by_case size base phase (suc (suc n)) statuses c g s t ss
+by_case size base phase (suc (suc n)) statuses c tail g s t ss
     heads current source target update both plan own over parts =
     absurd (omega (arith, heads.slot))
-by_case size base marks.Idle zero statuses c g s (Some l) ss
+by_case size base marks.Idle zero statuses c tail g s (Some l) ss
     heads current source target update both plan own over parts =
     absurd (let no : true ≡ false = both in cc)
-by_case size base marks.Idle (suc zero) statuses c g s (Some l) ss
+by_case size base marks.Idle (suc zero) statuses c tail g s (Some l) ss
     heads current source target update both plan own over parts =
     absurd (let no : true ≡ false = both in cc)
-by_case size base marks.Installing zero statuses c g s None ss
+by_case size base marks.Installing zero statuses c tail g s None ss
     heads current source target update both plan own over parts =
     absurd (let no : false ≡ true = both in cc)
-by_case size base marks.Installing (suc zero) statuses c g s None ss
+by_case size base marks.Installing (suc zero) statuses c tail g s None ss
     heads current source target update both plan own over parts =
     absurd (let no : false ≡ true = both in cc)
-by_case size base marks.Staged zero statuses c g s None ss
+by_case size base marks.Staged zero statuses c tail g s None ss
     heads current source target update both plan own over parts =
     absurd (let no : false ≡ true = both in cc)
-by_case size base marks.Staged (suc zero) statuses c g s None ss
+by_case size base marks.Staged (suc zero) statuses c tail g s None ss
     heads current source target update both plan own over parts =
     absurd (let no : false ≡ true = both in cc)
-by_case size base marks.Merging zero statuses c g s None ss
+by_case size base marks.Merging zero statuses c tail g s None ss
     heads current source target update both plan own over parts =
     record {
       enough = heads.enough;
+      ends = heads.ends;
       geometry = heads.geometry;
       control = heads.control;
       phase = inr (inr (inr refl));
@@ -405,10 +414,11 @@ by_case size base marks.Merging zero statuses c g s None ss
           sym (not_overlaid (record base { phase = marks.Merging; slot = 0 }) heads.flags refl);
       overlay = tt;
     }
-by_case size base marks.Merging (suc zero) statuses c g s None ss
+by_case size base marks.Merging (suc zero) statuses c tail g s None ss
     heads current source target update both plan own over parts =
     record {
       enough = heads.enough;
+      ends = heads.ends;
       geometry = heads.geometry;
       control = heads.control;
       phase = inr (inr (inr refl));
@@ -431,13 +441,13 @@ by_case size base marks.Merging (suc zero) statuses c g s None ss
           sym (not_overlaid (record base { phase = marks.Merging; slot = 1 }) heads.flags refl);
       overlay = tt;
     }
-by_case size base marks.Merging zero statuses c g s (Some l) ss
+by_case size base marks.Merging zero statuses c tail g s (Some l) ss
     heads current source target update both plan own over parts =
     absurd (let no : true ≡ false = both in cc)
-by_case size base marks.Merging (suc zero) statuses c g s (Some l) ss
+by_case size base marks.Merging (suc zero) statuses c tail g s (Some l) ss
     heads current source target update both plan own over parts =
     absurd (let no : true ≡ false = both in cc)
-by_case size base marks.Completed slot statuses c g s t ss
+by_case size base marks.Completed slot statuses c tail g s t ss
     heads current source target update both plan own over parts =
     absurd (no_phase heads.phase)
   where
@@ -449,23 +459,24 @@ by_case size base marks.Completed slot statuses c g s t ss
 
 -- What was read of a disk of so many sectors is a device there.
 pub device_kept : (size : ℕ) (m : UpdateMark) (statuses : List (Option PartStatus)) (c : Control)
-    (g : Geometry) (s : Table) (t : Option Loaded) (ss : List Scanned)
-    → AreHeads size m c g
+    (tail : Tail) (g : Geometry) (s : Table) (t : Option Loaded) (ss : List Scanned)
+    → AreHeads size m c tail g
     → has_slot m.phase m.slot c.current ≡ true
-    → IsTableOf size g m.slot s
-    → IfSome t (λ l. IsTableOf size g (other_slot m.slot) l.table)
+    → IsTableOf tail.super_end g m.slot s
+    → IfSome t (λ l. IsTableOf tail.super_end g (other_slot m.slot) l.table)
     → IfSome t (λ l. AreOfUpdate m.apart m.slot s l.table)
     → is_some t ≡ reads_both m.phase
-    → IfSome t (λ l. AreParts size (plan_of (other_slot m.slot) (layout_of l.table) ss))
-    → (m.phase ≡ marks.Merging → AreParts size (plan_of m.slot (layout_of s) ss))
-    → (m.phase ≡ marks.Idle → IsOverlaidHere size m.overlaid m.slot (layout_of s) ss)
-    → IsDevice (record (kept (read_of m statuses c g (s ∷ target_tables t) ss)) { control = c })
+    → IfSome t (λ l. AreParts tail.super_end (plan_of (other_slot m.slot) (layout_of l.table) ss))
+    → (m.phase ≡ marks.Merging → AreParts tail.super_end (plan_of m.slot (layout_of s) ss))
+    → (m.phase ≡ marks.Idle → IsOverlaidHere tail.super_end m.overlaid m.slot (layout_of s) ss)
+    → IsDevice
+    (record (kept (read_of m statuses c tail g (s ∷ target_tables t) ss)) { control = c })
     size
-device_kept size m statuses c g s t ss heads current source target update both plan own over =
-    by_case size m m.phase m.slot statuses c g s t ss heads current source target update both plan
-    own over
-    (parts_kept size m.slot g (layout_of s) heads.enough (layout_keeps s source.rules) source.own
-    source.lies)
+device_kept size m statuses c tail g s t ss heads current source target update both plan own over =
+    by_case size m m.phase m.slot statuses c tail g s t ss heads current source target update both
+    plan own over
+    (parts_kept tail.super_end m.slot g (layout_of s) heads.enough (layout_keeps s source.rules)
+    source.own source.lies)
 
 -- a slot's table whose blocks stand once
 once_table : (slot : ℕ) (t : Table)

@@ -1,6 +1,6 @@
 -- What is known of a device whose parts were judged.
 use Rattle.std.proofs.Common.{◌≡◌, ◌∙◌, inl, inr, ℕ, ◌+◌, ◌≤◌, true, false, List, refl, sym, ap}
-use Rattle.std.proofs.Common.{subst}
+use Rattle.std.proofs.Common.{subst, arith}
 use Rattle.std.specs.Prelude.{Bool, Option, Some, None, IfSome, IsNone, All}
 use Rattle.std.proofs.lemmas.Bool.{cases_Bool}
 use Rattle.vab_bootctl.specs.declared.slots.Control.{Control}
@@ -21,6 +21,7 @@ use Rattle.vab_partitions.specs.Merging.{IsMerging}
 use Rattle.vab_device.specs.Kept.{has_slot, reads_both, IsTableOf, AreParts, AreOfUpdate, IsDevice}
 use Rattle.vab_device.specs.Phases.{plan_of}
 use Rattle.vab_device.specs.Stores.{Scanned}
+use Rattle.vab_physical.specs.declared.tail.Tail.{Tail}
 use Rattle.vab_recover.specs.declared.table.Tables.{Tables}
 use Rattle.vab_plan.specs.Scans.{IsTargetTable}
 use Rattle.vab_recover.specs.Scans.{IsScanned}
@@ -110,16 +111,22 @@ merging_is marks.Merging is = refl
 merging_is marks.Completed is = absurd cc
 
 module _
-    (size : ℕ) (g : Geometry) (m : UpdateMark) (t : Tables)
-    (there : AreTablesThere size g m t)
+    (size : ℕ) (tail : Tail) (g : Geometry) (m : UpdateMark) (t : Tables)
+    (there : AreTablesThere tail.super_end g m t)
     (update : IfSome t.target (λ l. AreOfUpdate m.apart m.slot t.source.table l.table))
     (merging : IsNone t.target
     → is_merging m.phase ≡ true
     → IsMerging m.slot (layout_of t.source.table).parts) where
-  pub source_on_disk : 4120 ≤ size
+  pub source_on_disk : 4120 ≤ tail.super_end
+      → tail.super_end ≤ size
       → 4096 + end_of (layout_of t.source.table).device ≤ size
-  source_on_disk enough =
-      target_on_disk size g t.source.table enough there.source.text.rules there.source.lies
+  source_on_disk enough ends =
+      omega (
+        arith,
+        target_on_disk tail.super_end g t.source.table enough there.source.text.rules
+            there.source.lies,
+        ends,
+      )
 
   alone : is_merging m.phase ≡ true → IsNone t.target
   alone is = there.both ∙ not_both m.phase is
@@ -134,33 +141,42 @@ module _
   through_are = elim (cases_Bool (is_merging m.phase)) [
     | inl is ↦ rw is (own_table is)
     | inr not ↦
-        rw not (targets_are m.apart size m.slot g t.source.table t.target there.target update)
+        rw not (targets_are m.apart tail.super_end m.slot g t.source.table t.target there.target
+        update)
   ]
 
-  through_there : IfSome (through_of m.phase t.source t.target) (IsTableThere size g)
+  through_there : IfSome (through_of m.phase t.source t.target) (IsTableThere tail.super_end g)
   through_there = elim (cases_Bool (is_merging m.phase)) [
     | inl is ↦ rw is there.source
     | inr not ↦ rw not there.target
   ]
 
-  pub through_on_disk : 4120 ≤ size
+  pub through_on_disk : 4120 ≤ tail.super_end
+      → tail.super_end ≤ size
       → IfSome (through_of m.phase t.source t.target)
       (λ l. 4096 + end_of (layout_of l.table).device ≤ size)
-  through_on_disk enough =
-      some_all (IsTableThere size g) (λ l. 4096 + end_of (layout_of l.table).device ≤ size)
+  through_on_disk enough ends =
+      some_all (IsTableThere tail.super_end g)
+      (λ l. 4096 + end_of (layout_of l.table).device ≤ size)
       (through_of m.phase t.source t.target)
-      (λ l there. target_on_disk size g l.table enough there.text.rules there.lies) through_there
+      (λ l there.
+      omega (
+        arith,
+        target_on_disk tail.super_end g l.table enough there.text.rules there.lies,
+        ends,
+      ))
+      through_there
 
   -- the device that was put together is one on the disk
   pub assembled_kept : (d : Device) (ss : List (Option PartStatus)) (c : Control)
       (x : Stored) (scanned : List Scanned)
-      → AreHeads size m c g
+      → AreHeads size m c tail g
       → has_slot m.phase m.slot c.current ≡ true
       → IsOwn m.slot (layout_of t.source.table).parts
       → (IsNone t.target
       → is_merging m.phase ≡ false
       → KeepsOverlay m.overlaid m.slot (layout_of t.source.table))
-      → IsAssembled d m c g t.source.table x
+      → IsAssembled d m c tail g t.source.table x
       → x.through ≡ through_parts m.phase m.slot t.source t.target scanned
       → x.overlay ≡ overlay_by m t.source.table scanned
       → IfSome (through_of m.phase t.source t.target)
@@ -170,22 +186,22 @@ module _
       → IsDevice (with_tables t d) size
   assembled_kept d ss c x scanned heads current own judged is planned overlaid are over =
       let kept =
-      kept_is d t m ss c g x scanned heads.phase heads.slot there.both is planned overlaid in
-      let parts = plans_kept size (through_slot m.phase m.slot) g
+      kept_is d t m ss c tail g x scanned heads.phase heads.slot there.both is planned overlaid in
+      let parts = plans_kept tail.super_end (through_slot m.phase m.slot) g
       (through_of m.phase t.source t.target) scanned heads.enough through_there through_are are in
       subst (λ (x : Device). IsDevice x size) (sym kept)
-      (device_kept size m ss c g t.source.table t.target scanned heads current
+      (device_kept size m ss c tail g t.source.table t.target scanned heads current
       (record {
         rules = there.source.text.rules;
         small = there.source.small;
         own = own;
         lies = there.source.lies;
       })
-      (targets_kept m.apart size m.slot g t.source.table t.target there.target update)
+      (targets_kept m.apart tail.super_end m.slot g t.source.table t.target there.target update)
       update there.both (of_target parts) (of_own parts)
       (λ idle.
-      overlaid_here size m.slot g (layout_of t.source.table) m.overlaid scanned heads.enough
-      (layout_keeps t.source.table there.source.text.rules) own there.source.lies
+      overlaid_here tail.super_end m.slot g (layout_of t.source.table) m.overlaid scanned
+      heads.enough (layout_keeps t.source.table there.source.text.rules) own there.source.lies
       (judged (there.both ∙ ap reads_both idle) (ap is_merging idle))
       (over (ap is_idle idle))))
     where
@@ -194,22 +210,24 @@ module _
       none_all P (Some y) is = absurd (let no : true ≡ false = is in cc)
 
       of_target : IfSome (through_of m.phase t.source t.target)
-          (λ l. AreParts size (plan_of (through_slot m.phase m.slot) (layout_of l.table) scanned))
+          (λ l. AreParts tail.super_end (plan_of (through_slot m.phase m.slot) (layout_of l.table)
+          scanned))
           → IfSome t.target
-          (λ l. AreParts size (plan_of (other_slot m.slot) (layout_of l.table) scanned))
+          (λ l. AreParts tail.super_end (plan_of (other_slot m.slot) (layout_of l.table) scanned))
       of_target parts = elim (cases_Bool (is_merging m.phase)) [
         | inl is ↦
             none_all
-            (λ (l : Loaded). AreParts size (plan_of (other_slot m.slot) (layout_of l.table)
-            scanned))
+            (λ (l : Loaded).
+            AreParts tail.super_end (plan_of (other_slot m.slot) (layout_of l.table) scanned))
             t.target (alone is)
         | inr not ↦ rw not at parts
       ]
 
       of_own : IfSome (through_of m.phase t.source t.target)
-          (λ l. AreParts size (plan_of (through_slot m.phase m.slot) (layout_of l.table) scanned))
+          (λ l. AreParts tail.super_end (plan_of (through_slot m.phase m.slot) (layout_of l.table)
+          scanned))
           → m.phase ≡ marks.Merging
-          → AreParts size (plan_of m.slot (layout_of t.source.table) scanned)
+          → AreParts tail.super_end (plan_of m.slot (layout_of t.source.table) scanned)
       of_own parts merging =
           let is : is_merging m.phase ≡ true = ap is_merging merging in
           rw is at parts

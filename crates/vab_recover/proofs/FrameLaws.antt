@@ -16,14 +16,15 @@ use Rattle.vab_layout.specs.Slots.{other_slot}
 use Rattle.vab_device.specs.declared.fault.StartFault.{StartFault}
 use Rattle.vab_device.specs.declared.device.Device.{Device}
 use Rattle.vab_device.specs.declared.device.Part.{Part}
-use Rattle.vab_device.specs.Checks.{first_fault}
+use Rattle.vab_device.specs.Checks.{first_fault, ◌>>=◌}
 use Rattle.vab_device.specs.Kept.{reads_both, IsPhase}
 use Rattle.vab_device.specs.Phases.{phase_in, phase_at, merging_check}
 use Rattle.vab_device.specs.Reading.{Read, control_in, control_kept}
-use Rattle.vab_device.specs.Reading.{geometry_at, tables_in, table_for, parts_for}
+use Rattle.vab_device.specs.Reading.{whole_disk, tail_at, geometry_at, tables_in, table_for}
+use Rattle.vab_device.specs.Reading.{parts_for}
 use Rattle.vab_device.specs.Reading.{state_fault, stores_of, kept, device, Reads}
 use Rattle.vab_device.specs.Stores.{Wanted, Scanned, scans_in}
-use Rattle.vab_device.proofs.OpeningLaws.{device_no_control, device_no_geometry}
+use Rattle.vab_device.proofs.OpeningLaws.{device_no_control, device_no_tail, device_no_geometry}
 use Rattle.vab_device.proofs.OpeningLaws.{device_no_tables, device_judged, device_scanned}
 use Rattle.vab_device.proofs.OpeningLaws.{device_stated, reads_of, control_seen_in, or_first}
 use Rattle.vab_device.proofs.ReadingLaws.{FrameReads, seen_slots}
@@ -34,7 +35,9 @@ use Rattle.vab_recover.specs.Opened.{read_of, IsMarked, IsHeaded, IsFramed, targ
 use Rattle.vab_recover.specs.Opened.{tables_of, slots_fault, slot_parts, planned_by}
 use Rattle.vab_recover.specs.Opened.{reads_statuses, through_of, through_slot, overlay_by}
 use Rattle.vab_recover.specs.Opened.{target_slots, fault_of, stores_at, plan_by, IsAssembled}
-use Rattle.vab_recover.specs.Opened.{with_tables, table_if, IsOpened, AreLoaded}
+use Rattle.vab_recover.specs.Opened.{with_tables, table_if, IsOpened, AreLoaded, both_of}
+use Rattle.vab_recover.specs.Opened.{ends_at}
+use Rattle.vab_physical.specs.declared.tail.Tail.{Tail}
 use Rattle.vab_marks.specs.Version.{partitions_under}
 use Rattle.vab_device.specs.Reading.{part_fault, most_at}
 use Rattle.vab_marks.specs.declared.version.MarkVersion.{MarkVersion}
@@ -243,6 +246,7 @@ control_single m image c is =
       mark = m;
       statuses = [];
       control = c;
+      tail = whole_disk 0;
       geometry = record { max = 0; slots = 0 };
       tables = [];
       scanned = [];
@@ -259,25 +263,53 @@ no_control size image m v ss f marked bad =
     device_no_control size image m ss f marked.enough marked.mark marked.statuses
     (bad (phase_at m).has_a (phase_at m).has_b)
 
-pub no_geometry : (size : ℕ) (image : Image) (m : UpdateMark) (v : MarkVersion)
+-- `super` has no end, or its geometry is bad
+pub no_ends : (size : ℕ) (image : Image) (m : UpdateMark) (v : MarkVersion)
     (ss : List (Option PartStatus)) (c : Control) (f : StartFault)
     → IsMarked size image m v ss
     → control_of (image 4) ≡ Ok c
-    → geometry_at size image ≡ Err f
+    → ends_at m.physical size image ≡ Err f
     → device size image ≡ Err f
-no_geometry size image m v ss c f marked control bad =
-    device_no_geometry size image m ss (control_kept m c) f marked.enough marked.mark
-    marked.statuses (control_single m image c control) bad
+no_ends size image m v ss c f marked control bad =
+    by_tail (tail_at m.physical size image) refl bad
+  where
+    control_is : control_in (phase_at m).has_a (phase_at m).has_b image ≡ Ok (control_kept m c)
+    control_is = control_single m image c control
+
+    by_geometry : (tail : Tail) (x : Result Geometry StartFault)
+        → tail_at m.physical size image ≡ Ok tail
+        → geometry_at tail.super_end image ≡ x
+        → (x >>= both_of tail) ≡ Err f
+        → device size image ≡ Err f
+    by_geometry tail (Ok g) ends geometry bad =
+        absurd (let no : both_of tail g ≡ Err f = bad in cc)
+    by_geometry tail (Err h) ends geometry bad =
+        let both : (let x : Result (Tail × Geometry) StartFault = Err h in x ≡ Err f) = bad in
+        let same : h ≡ f = cc in
+        device_no_geometry size image m ss (control_kept m c) tail f marked.enough marked.mark
+        marked.statuses control_is ends (geometry ∙ ap Err same)
+
+    by_tail : (x : Result Tail StartFault)
+        → tail_at m.physical size image ≡ x
+        → (x >>= λ tail. geometry_at tail.super_end image >>= both_of tail) ≡ Err f
+        → device size image ≡ Err f
+    by_tail (Ok tail) ends bad =
+        by_geometry tail (geometry_at tail.super_end image) ends refl bad
+    by_tail (Err h) ends bad =
+        let both : (let x : Result (Tail × Geometry) StartFault = Err h in x ≡ Err f) = bad in
+        let same : h ≡ f = cc in
+        device_no_tail size image m ss (control_kept m c) f marked.enough marked.mark
+        marked.statuses control_is (ends ∙ ap Err same)
 
 pub no_tables : (size : ℕ) (image : Image) (m : UpdateMark) (v : MarkVersion)
-    (ss : List (Option PartStatus)) (c : Control) (g : Geometry) (f : StartFault)
-    → IsHeaded size image m v ss c g
-    → tables_in size g (phase_at m).tables image ≡ Err f
+    (ss : List (Option PartStatus)) (c : Control) (tail : Tail) (g : Geometry) (f : StartFault)
+    → IsHeaded size image m v ss c tail g
+    → tables_in tail.super_end g (phase_at m).tables image ≡ Err f
     → device size image ≡ Err f
-no_tables size image m v ss c g f headed bad =
-    device_no_tables size image m ss (control_kept m c) g f headed.marked.enough
+no_tables size image m v ss c tail g f headed bad =
+    device_no_tables size image m ss (control_kept m c) tail g f headed.marked.enough
     headed.marked.mark headed.marked.statuses (control_single m image c headed.control)
-    headed.geometry bad
+    headed.ends headed.geometry bad
 
 -- ---- behind the frame
 
@@ -298,8 +330,8 @@ module _
   ss = f.heads.statuses.items
 
   abbrev first : Read
-  first = read_of f.heads.mark f.heads.statuses.items f.heads.control f.heads.geometry
-      (tables_of f.tables) []
+  first = read_of f.heads.mark f.heads.statuses.items f.heads.control f.heads.tail
+      f.heads.geometry (tables_of f.tables) []
 
   pub is_of : IsOfPhase f.heads.mark f.heads.mark.phase f.heads.mark.slot f.tables.source
       f.tables.target
@@ -313,6 +345,7 @@ module _
     mark = framed.heads.marked.mark;
     statuses = framed.heads.marked.statuses;
     control = control_single m image f.heads.control framed.heads.control;
+    tail = framed.heads.ends;
     geometry = framed.heads.geometry;
     tables = framed.tables;
   }
@@ -384,8 +417,8 @@ module _
       (through_parts f.heads.mark.phase f.heads.mark.slot f.tables.source f.tables.target scanned)
       ≡ None
       → Reads size
-      (read_of f.heads.mark f.heads.statuses.items f.heads.control f.heads.geometry
-      (tables_of f.tables) scanned)
+      (read_of f.heads.mark f.heads.statuses.items f.heads.control f.heads.tail
+      f.heads.geometry (tables_of f.tables) scanned)
       image
   frame_read scanned parts stores state =
       reads_of size first image scanned frame_reads (parts_as None parts)
@@ -405,16 +438,16 @@ slots_are f target scanned x planned is =
 
 -- the device that is kept of a reading
 pub kept_is : (d : Device) (t : Tables) (m : UpdateMark) (ss : List (Option PartStatus))
-    (c : Control)
+    (c : Control) (tail : Tail)
     (g : Geometry) (x : Stored) (scanned : List Scanned)
     → IsPhase m.phase
     → m.slot < 2
     → is_some t.target ≡ reads_both m.phase
-    → IsAssembled d m c g t.source.table x
+    → IsAssembled d m c tail g t.source.table x
     → x.through ≡ through_parts m.phase m.slot t.source t.target scanned
     → x.overlay ≡ overlay_by m t.source.table scanned
-    → with_tables t d ≡ record (kept (read_of m ss c g (tables_of t) scanned)) { control = c }
-kept_is d t m ss c g x scanned phase below both is planned overlaid =
+    → with_tables t d ≡ record (kept (read_of m ss c tail g (tables_of t) scanned)) { control = c }
+kept_is d t m ss c tail g x scanned phase below both is planned overlaid =
     let of = of_phase m m.phase m.slot t.source t.target phase below both in
     let a = is.a ∙ ap (slot_parts m 0 t.source.table) planned ∙ of.a scanned in
     let b = is.b ∙ ap (slot_parts m 1 t.source.table) planned ∙ of.b scanned in
@@ -431,6 +464,7 @@ kept_is d t m ss c g x scanned phase below both is planned overlaid =
       geometry = is.geometry i;
       control = is.control i;
       mark = is.mark i;
+      tail = is.ends i;
       cap = is.cap i;
       groups = is.groups i;
       a = a i;
@@ -443,25 +477,30 @@ kept_is d t m ss c g x scanned phase below both is planned overlaid =
 
 -- what is said of these parts is said of those of the device
 pub opened_of : (d : Device) (t : Tables) (size : ℕ) (image : Image) (m : UpdateMark)
-    (ss : List (Option PartStatus)) (c : Control) (g : Geometry) (scanned : List Scanned)
+    (ss : List (Option PartStatus)) (c : Control) (tail : Tail) (g : Geometry)
+    (scanned : List Scanned)
     → d.mark ≡ m
     → d.control ≡ c
+    → d.tail ≡ tail
     → d.geometry ≡ g
-    → Reads size (read_of m ss c g (tables_of t) scanned) image
-    → with_tables t d ≡ record (kept (read_of m ss c g (tables_of t) scanned)) { control = c }
+    → Reads size (read_of m ss c tail g (tables_of t) scanned) image
+    → with_tables t d
+    ≡ record (kept (read_of m ss c tail g (tables_of t) scanned)) { control = c }
     → control_of (image 4) ≡ Ok c
     → AreLoaded g m.slot image t
     → IsOpened d t size image
-opened_of d t size image m ss c g scanned is_m is_c is_g reads is control loaded =
-    let P : UpdateMark → Control → Geometry → Type 0 = λ m c g.
-    Reads size (read_of m ss c g (tables_of t) scanned) image
-    × (with_tables t d ≡ record (kept (read_of m ss c g (tables_of t) scanned)) { control = c })
+opened_of d t size image m ss c tail g scanned is_m is_c is_tail is_g reads is control loaded =
+    let P : UpdateMark → Control → Tail → Geometry → Type 0 = λ m c tail g.
+    Reads size (read_of m ss c tail g (tables_of t) scanned) image
+    × (with_tables t d
+    ≡ record (kept (read_of m ss c tail g (tables_of t) scanned)) { control = c })
     × (control_of (image 4) ≡ Ok c)
     × AreLoaded g m.slot image t in
-    let all : P d.mark d.control d.geometry =
-    subst (λ (m : UpdateMark). P m d.control d.geometry) (sym is_m)
-    (subst (λ (c : Control). P m c d.geometry) (sym is_c)
-    (subst (λ (g : Geometry). P m c g) (sym is_g) (reads, is, control, loaded))) in
+    let all : P d.mark d.control d.tail d.geometry =
+    subst (λ (m : UpdateMark). P m d.control d.tail d.geometry) (sym is_m)
+    (subst (λ (c : Control). P m c d.tail d.geometry) (sym is_c)
+    (subst (λ (tail : Tail). P m c tail d.geometry) (sym is_tail)
+    (subst (λ (g : Geometry). P m c tail g) (sym is_g) (reads, is, control, loaded)))) in
     record {
       statuses = ss;
       scanned = scanned;

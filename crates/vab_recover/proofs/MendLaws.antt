@@ -1,7 +1,7 @@
 -- What opening writes, and what it leaves behind a merge that has ended.
 use Rattle.std.proofs.Common.{◌≡◌, ◌∙◌, ⊎_elim, inl, inr, ℕ, zero, suc, ◌<◌, true, false}
 use Rattle.std.proofs.Common.{List, length, ◌≤◌, Ok, refl, sym, ap, subst, arith}
-use Rattle.std.specs.Prelude.{◌⊎◌, ◌==◌, if◌then◌else◌, Option, Some, None, IfSome, IsNone}
+use Rattle.std.specs.Prelude.{◌⊎◌, ◌==◌, if◌then◌else◌, Bool, Option, Some, None, IfSome, IsNone}
 use Rattle.vab_disk.specs.declared.disk.Disk.{Ghosts}
 use Rattle.vab_disk.specs.Disk.{Image, Outcome, Adds, set_sector}
 use Rattle.vab_disk.specs.Calls.{IsAtRest, OnlyReads, SameBut, Touches}
@@ -12,6 +12,8 @@ use Rattle.vab_marks.specs.declared.mark.MarkPhase.TheVariants as marks
 use Rattle.vab_marks.specs.declared.mark.UpdateMark.{UpdateMark}
 use Rattle.vab_marks.specs.Mark.{mark_of, rephased}
 use Rattle.vab_geometry.specs.declared.geometry.Geometry.{Geometry}
+use Rattle.vab_physical.specs.declared.tail.Tail.{Tail}
+use Rattle.vab_device.specs.Reading.{tail_at, geometry_at}
 use Rattle.vab_tables.specs.declared.table.Table.{Table}
 use Rattle.vab_tables.specs.Spelling.{table_text}
 use Rattle.vab_lpstore.specs.declared.loaded.Loaded.{Loaded}
@@ -131,7 +133,7 @@ own_table d t below = at_slot d.mark.slot t.source.table t.target below
 
 pub source_kept : (d : Device) (t : Tables) (size : ℕ)
     → IsDevice (with_tables t d) size
-    → IsTableOf size d.geometry d.mark.slot t.source.table
+    → IsTableOf d.tail.super_end d.geometry d.mark.slot t.source.table
 source_kept d t size dev =
     kept_table (with_tables t d) size t.source.table dev (own_table d t dev.slot)
 
@@ -228,7 +230,8 @@ module _
       → IsOfTidying size old s b
   of_tidyings None due is s b w = absurd w
   of_tidyings (Some x) due is s b w = record {
-    read = read_of d.mark opened.statuses d.control d.geometry (tables_of t) opened.scanned;
+    read = read_of d.mark opened.statuses d.control d.tail d.geometry (tables_of t)
+        opened.scanned;
     reads = opened.reads;
     completed = due;
     writes = ⊎_elim (λ h. inl (of_alone x.alone is.alone s b h)) (λ h. inr h) w;
@@ -354,12 +357,20 @@ module _
       → IfSome x (IsTidying d.geometry.max d.mark t.source.table)
       → (HasCompleted d.mark old → IsInOrder (device_after x (with_tables t d)) image)
       → GoesOn size old image
-  goes_on None image due is order = λ m g u has geometry said. absurd (due m has)
-  goes_on (Some x) image due is order = λ m g u has geometry said.
-      let both : Ok d.geometry ≡ Ok g = sym opened.reads.geometry ∙ geometry in
+  goes_on None image due is order = λ m tail g u has ends geometry said. absurd (due m has)
+  goes_on (Some x) image due is order = λ m tail g u has ends geometry said.
+      let marked = one_mark d.mark m old due has in
+      let physical : d.mark.physical ≡ m.physical =
+      ap (λ (k : UpdateMark). k.physical) marked in
+      let tails : Ok d.tail ≡ Ok tail =
+      sym opened.reads.tail ∙ ap (λ (b : Bool). tail_at b size old) physical ∙ ends in
+      let one_tail : d.tail ≡ tail = cc in
+      let both : Ok d.geometry ≡ Ok g =
+      sym opened.reads.geometry
+      ∙ ap (λ (k : Tail). geometry_at k.super_end old) one_tail
+      ∙ geometry in
       let same : d.geometry ≡ g = cc in
-      goes_alone x.alone m g u image is.alone (one_mark d.mark m old due has) same said
-      (order due)
+      goes_alone x.alone m g u image is.alone marked same said (order due)
 
   -- the kept mark
   pub same_mark : (x : Option Tidying) → (device_after x (with_tables t d)).mark ≡ d.mark

@@ -188,25 +188,23 @@ on_ok P Q (Err e) f p = p
 module _
     (d : Device) (t : Tables) (size : ℕ) (old : Image)
     (kept : IsDevice (with_tables t d) size)
-    (there : AreTablesThere size d.geometry d.mark t)
+    (there : AreTablesThere d.tail.super_end d.geometry d.mark t)
     (opened : IsOpened d t size old) where
-  read : Read
-  read = read_of d.mark opened.statuses d.control d.geometry (tables_of t) opened.scanned
+  abbrev read : Read
+  read = read_of d.mark opened.statuses d.control d.tail d.geometry (tables_of t) opened.scanned
 
   pub source_repair : (s : ℕ) (b : List ℕ)
       → IsOfRepair t.source.primary t.source.backup d.geometry d.mark.slot t.source.text s b
       → IsRepair size old s b
   source_repair s b writes =
-      repair_is size
-      (read_of d.mark opened.statuses d.control d.geometry (tables_of t) opened.scanned)
+      repair_is size read
       d.mark.slot t.source old kept.geometry kept.slot kept.slot there.source.fits opened.reads
       opened.loaded.source (source_read d.mark) s b writes
 
   pub source_flags : BothCopiesHold size old
       → (t.source.primary ≡ true) × (t.source.backup ≡ true)
   source_flags hold =
-      both_flags size
-      (read_of d.mark opened.statuses d.control d.geometry (tables_of t) opened.scanned)
+      both_flags size read
       d.mark.slot t.source old kept.geometry kept.slot kept.slot there.source.fits opened.reads
       opened.loaded.source (source_read d.mark) hold
 
@@ -214,8 +212,7 @@ module _
       → LeavesTable told d.geometry d.mark.slot (sectors_in t.source) old t.source.table o
       → LeavesSame told size old o
   source_leaves told o leaves =
-      leaves_same size
-      (read_of d.mark opened.statuses d.control d.geometry (tables_of t) opened.scanned)
+      leaves_same size read
       d.mark.slot t.source old kept.geometry kept.slot kept.slot there.source.fits opened.reads
       opened.loaded.source told o leaves
 
@@ -228,10 +225,10 @@ module _
       → IsOfRepair l.primary l.backup d.geometry (other_slot d.mark.slot) l.text s b
       → IsRepair size old s b
   target_repair l is s b writes =
-      repair_is size
-      (read_of d.mark opened.statuses d.control d.geometry (tables_of t) opened.scanned)
+      repair_is size read
       (other_slot d.mark.slot) l old kept.geometry kept.slot (omega arith)
-      (some_at t.target l (IsTableThere size d.geometry) is there.target).fits opened.reads
+      (some_at t.target l (IsTableThere d.tail.super_end d.geometry) is there.target).fits
+      opened.reads
       (some_at t.target l (IsLoadedAt d.geometry (other_slot d.mark.slot) old) is
       opened.loaded.target)
       (target_read d.mark (installing l is)) s b writes
@@ -241,10 +238,10 @@ module _
       → BothCopiesHold size old
       → (l.primary ≡ true) × (l.backup ≡ true)
   target_flags l is hold =
-      both_flags size
-      (read_of d.mark opened.statuses d.control d.geometry (tables_of t) opened.scanned)
+      both_flags size read
       (other_slot d.mark.slot) l old kept.geometry kept.slot (omega arith)
-      (some_at t.target l (IsTableThere size d.geometry) is there.target).fits opened.reads
+      (some_at t.target l (IsTableThere d.tail.super_end d.geometry) is there.target).fits
+      opened.reads
       (some_at t.target l (IsLoadedAt d.geometry (other_slot d.mark.slot) old) is
       opened.loaded.target)
       (target_read d.mark (installing l is)) hold
@@ -261,25 +258,20 @@ module _
         repair_elsewhere t.source.primary t.source.backup d.geometry d.mark.slot t.source.text old
         mid but
 
-    mid_same : SameRead size
-        (read_of d.mark opened.statuses d.control d.geometry (tables_of t) opened.scanned) old mid
+    mid_same : SameRead size read old mid
     mid_same =
-        repaired_same size
-        (read_of d.mark opened.statuses d.control d.geometry (tables_of t) opened.scanned)
+        repaired_same size read
         d.mark.slot t.source old kept.geometry kept.slot kept.slot there.source.fits opened.reads
         opened.loaded.source mid others held
 
     pub mid_means : device size mid ≡ device size old
     mid_means =
-        device_same size
-        (read_of d.mark opened.statuses d.control d.geometry (tables_of t) opened.scanned) old mid
+        device_same size read old mid
         opened.reads mid_same
 
-    mid_reads : Reads size
-        (read_of d.mark opened.statuses d.control d.geometry (tables_of t) opened.scanned) mid
+    mid_reads : Reads size read mid
     mid_reads =
-        reads_kept size
-        (read_of d.mark opened.statuses d.control d.geometry (tables_of t) opened.scanned) old mid
+        reads_kept size read old mid
         opened.reads mid_same
 
     mid_control : control_of (mid 4) ≡ Ok d.control
@@ -294,7 +286,7 @@ module _
     pub mid_represents : t.target ≡ None
         → RepresentsUnder (version_at old) (with_tables t d) size mid
     mid_represents none = record {
-      read = read_of d.mark opened.statuses d.control d.geometry (tables_of t) opened.scanned;
+      read = read;
       reads = mid_reads;
       is = opened.is;
       control = mid_control;
@@ -313,8 +305,8 @@ module _
       apart_too : other_slot d.mark.slot ≢ d.mark.slot
       apart_too e = omega (arith, e, kept.slot)
 
-      l_there : IsTableThere size d.geometry l
-      l_there = some_at t.target l (IsTableThere size d.geometry) is there.target
+      l_there : IsTableThere d.tail.super_end d.geometry l
+      l_there = some_at t.target l (IsTableThere d.tail.super_end d.geometry) is there.target
 
       pub mid_loaded : IsLoadedAt d.geometry (other_slot d.mark.slot) mid l
       mid_loaded =
@@ -328,8 +320,7 @@ module _
           → LeavesTable told d.geometry (other_slot d.mark.slot) (sectors_in l) mid l.table o
           → LeavesSame told size old o
       target_leaves told o leaves =
-          let same = leaves_same size
-          (read_of d.mark opened.statuses d.control d.geometry (tables_of t) opened.scanned)
+          let same = leaves_same size read
           (other_slot d.mark.slot) l mid kept.geometry kept.slot (omega arith) l_there.fits
           mid_reads
           mid_loaded told o leaves in
@@ -345,20 +336,15 @@ module _
             repair_elsewhere l.primary l.backup d.geometry (other_slot d.mark.slot) l.text mid new
             but_too
 
-        new_same : SameRead size
-            (read_of d.mark opened.statuses d.control d.geometry (tables_of t) opened.scanned) mid
-            new
+        new_same : SameRead size read mid new
         new_same =
-            repaired_same size
-            (read_of d.mark opened.statuses d.control d.geometry (tables_of t) opened.scanned)
+            repaired_same size read
             (other_slot d.mark.slot) l mid kept.geometry kept.slot (omega arith) l_there.fits
             mid_reads mid_loaded new others_too held_too
 
         pub new_means : device size new ≡ device size old
         new_means =
-            device_same size
-            (read_of d.mark opened.statuses d.control d.geometry (tables_of t) opened.scanned) mid
-            new
+            device_same size read mid new
             mid_reads new_same
             ∙ mid_means
 
@@ -370,10 +356,9 @@ module _
 
         pub new_represents : RepresentsUnder (version_at old) (with_tables t d) size new
         new_represents = record {
-          read = read_of d.mark opened.statuses d.control d.geometry (tables_of t) opened.scanned;
+          read = read;
           reads =
-              reads_kept size
-              (read_of d.mark opened.statuses d.control d.geometry (tables_of t) opened.scanned) mid
+              reads_kept size read mid
               new mid_reads new_same;
           is = opened.is;
           control =

@@ -24,7 +24,8 @@ pub opened_means : (d : Device) (t : Tables) (size : ℕ) (image : Image)
     → IsOpened d t size image
     → device size image ≡ Ok (mounted_on (with_tables t d) image)
 opened_means d t size image is =
-    let r : Read = read_of d.mark is.statuses d.control d.geometry (tables_of t) is.scanned in
+    let r : Read = read_of d.mark is.statuses d.control d.tail d.geometry (tables_of t)
+    is.scanned in
     let a = (phase_at r.mark).has_a in
     let b = (phase_at r.mark).has_b in
     let has = has_images size r image is.reads in

@@ -22,19 +22,21 @@ use Rattle.vab_lpstore.specs.declared.loaded.Loaded.{Loaded}
 use Rattle.vab_layout.specs.declared.layout.Layout.{Layout}
 use Rattle.vab_layout.specs.Layout.{layout_of}
 use Rattle.vab_layout.specs.Slots.{other_slot}
+use Rattle.vab_physical.specs.declared.tail.Tail.{Tail}
 use Rattle.vab_device.specs.declared.device.Device.{Device}
 use Rattle.vab_statuses.specs.Statuses.{written_in}
 use Rattle.vab_tables.specs.Rules.{cap_of}
 use Rattle.vab_device.specs.declared.fault.StartFault.{StartFault}
 use Rattle.vab_device.specs.declared.fault.StartFault.TheVariants.{BadState}
 use Rattle.vab_device.specs.declared.device.Part.{Part}
-use Rattle.vab_device.specs.Checks.{check, first_fault}
+use Rattle.vab_device.specs.Checks.{check, first_fault, ◌>>=◌}
 use Rattle.vab_device.specs.Kept.{lies_in, has_both, reads_both, IsPhase, copies_end, super_bytes}
 use Rattle.vab_device.specs.Kept.{limits_of, parts_of}
 use Rattle.vab_device.specs.Phases.{phase_at, own_check, update_checks, plan_of, slot_checks}
 use Rattle.vab_device.specs.Phases.{are_ready, is_good, may_run, merging_check}
 use Rattle.vab_device.specs.Phases.{overlay_checks, overlay_wanted, overlay_of}
-use Rattle.vab_device.specs.Reading.{Read, mark_in, statuses_at, geometry_at, tables_in, kept}
+use Rattle.vab_device.specs.Reading.{Read, mark_in, statuses_at, tail_at, geometry_at, tables_in}
+use Rattle.vab_device.specs.Reading.{kept}
 use Rattle.vab_device.specs.Reading.{control_kept, version_at}
 use Rattle.vab_device.specs.Reading.{Reads}
 use Rattle.vab_device.specs.Stores.{Wanted, Scanned, wanted_of, or_fewer, scans_in}
@@ -68,14 +70,16 @@ may_place m = is_merging m.phase || m.apart
 abbrev pub read_of : UpdateMark
     → List (Option PartStatus)
     → Control
+    → Tail
     → Geometry
     → List Table
     → List Scanned
     → Read
-read_of m statuses c g ts scanned = record {
+read_of m statuses c tail g ts scanned = record {
   mark = m;
   statuses = statuses;
   control = control_kept m c;
+  tail = tail;
   geometry = g;
   tables = ts;
   scanned = scanned;
@@ -93,7 +97,18 @@ pub record IsMarked
   pub version : version_at image ≡ v
   pub statuses : statuses_at (phase_at m).reads_statuses image ≡ Ok ss
 
--- those, the whole boot control and the geometry
+-- where `super` ends, and the geometry
+abbrev pub both_of : Tail → Geometry → Result (Tail × Geometry) StartFault
+both_of tail g = Ok (tail, g)
+
+abbrev pub ends_at : (physical : Bool)
+    → (size : ℕ)
+    → Image
+    → Result (Tail × Geometry) StartFault
+ends_at physical size image =
+    tail_at physical size image >>= λ tail. geometry_at tail.super_end image >>= both_of tail
+
+-- those, the whole boot control, where `super` ends, and the geometry
 pub record IsHeaded
     (size : ℕ)
     (image : Image)
@@ -101,20 +116,28 @@ pub record IsHeaded
     (v : MarkVersion)
     (ss : List (Option PartStatus))
     (c : Control)
+    (tail : Tail)
     (g : Geometry) : Type 0 where
   pub marked : IsMarked size image m v ss
   pub control : control_of (image 4) ≡ Ok c
-  pub geometry : geometry_at size image ≡ Ok g
+  pub ends : tail_at m.physical size image ≡ Ok tail
+  pub geometry : geometry_at tail.super_end image ≡ Ok g
 
 -- what holds of the heads over every disk
-pub record AreHeads (size : ℕ) (m : UpdateMark) (c : Control) (g : Geometry) : Type 0 where
-  pub enough : 4120 ≤ size
+pub record AreHeads
+    (size : ℕ)
+    (m : UpdateMark)
+    (c : Control)
+    (tail : Tail)
+    (g : Geometry) : Type 0 where
+  pub enough : 4120 ≤ tail.super_end
+  pub ends : tail.super_end ≤ size
   pub phase : IsPhase m.phase
   pub slot : m.slot < 2
   pub flags : FlagsFit m
   pub control : Fits c
   pub geometry : IsGeometry g
-  pub copies_on : copies_end g ≤ super_bytes size
+  pub copies_on : copies_end g ≤ super_bytes tail.super_end
 
 -- ---- tables
 
@@ -136,22 +159,26 @@ pub record AreLoaded (g : Geometry) (slot : ℕ) (image : Image) (t : Tables) : 
   pub target : IfSome t.target (IsLoadedAt g (other_slot slot) image)
 
 -- what holds of a loaded table over every disk
-pub record IsTableThere (size : ℕ) (g : Geometry) (l : Loaded) : Type 0 where
+pub record IsTableThere (super_end : ℕ) (g : Geometry) (l : Loaded) : Type 0 where
   pub text : IsTableText g.max l.text l.table
   pub fits : length l.text ≤ g.max
   pub small : table_size_of l.table < 2 ^ 24
-  pub lies : IsTrue (lies_in size g (layout_of l.table).device)
+  pub lies : IsTrue (lies_in super_end g (layout_of l.table).device)
 
-pub record AreTablesThere (size : ℕ) (g : Geometry) (m : UpdateMark) (t : Tables) : Type 0 where
-  pub source : IsTableThere size g t.source
-  pub target : IfSome t.target (IsTableThere size g)
+pub record AreTablesThere
+    (super_end : ℕ)
+    (g : Geometry)
+    (m : UpdateMark)
+    (t : Tables) : Type 0 where
+  pub source : IsTableThere super_end g t.source
+  pub target : IfSome t.target (IsTableThere super_end g)
   pub both : is_some t.target ≡ reads_both m.phase
 
 -- what is read of a disk in front of its stores
 pub record IsFramed (size : ℕ) (image : Image) (f : Frame) : Type 0 where
   pub heads : IsHeaded size image f.heads.mark f.heads.version f.heads.statuses.items
-      f.heads.control f.heads.geometry
-  pub tables : tables_in size f.heads.geometry
+      f.heads.control f.heads.tail f.heads.geometry
+  pub tables : tables_in f.heads.tail.super_end f.heads.geometry
       (phase_at f.heads.mark).tables
       image
       ≡ Ok (tables_of f.tables)
@@ -304,11 +331,13 @@ pub record IsAssembled
     (d : Device)
     (m : UpdateMark)
     (c : Control)
+    (tail : Tail)
     (g : Geometry)
     (s : Table)
     (stored : Stored) : Type 0 where
   pub mark : d.mark ≡ m
   pub control : d.control ≡ c
+  pub ends : d.tail ≡ tail
   pub geometry : d.geometry ≡ g
   pub cap : d.cap ≡ cap_of (layout_of s).device
   pub groups : d.groups ≡ limits_of m.slot s.groups
@@ -336,10 +365,10 @@ pub record IsOpened (d : Device) (t : Tables) (size : ℕ) (image : Image) : Typ
   pub statuses : List (Option PartStatus)
   pub scanned : List Scanned
   pub reads : Reads size
-      (read_of d.mark statuses d.control d.geometry (tables_of t) scanned)
+      (read_of d.mark statuses d.control d.tail d.geometry (tables_of t) scanned)
       image
   pub is : with_tables t d
-      ≡ record (kept (read_of d.mark statuses d.control d.geometry (tables_of t) scanned)) {
+      ≡ record (kept (read_of d.mark statuses d.control d.tail d.geometry (tables_of t) scanned)) {
         control = d.control;
       }
   pub control : control_of (image 4) ≡ Ok d.control

@@ -9,7 +9,8 @@ use Rattle.vab_geometry.specs.declared.geometry.Geometry.{Geometry}
 use Rattle.vab_lpstore.specs.Loading.{slot_table}
 use Rattle.vab_device.specs.declared.device.Device.{Device}
 use Rattle.vab_device.specs.Kept.{table_of_slot}
-use Rattle.vab_device.specs.Reading.{geometry_at, version_at}
+use Rattle.vab_device.specs.Reading.{tail_at, geometry_at, version_at}
+use Rattle.vab_physical.specs.declared.tail.Tail.{Tail}
 use Rattle.vab_marks.specs.declared.version.MarkVersion.TheVariants.{Two}
 pub use Rattle.vab_tidy.specs.Migration.{IsOfMigration}
 pub use Rattle.vab_tidy.specs.Stays.{LeavesSame}
@@ -53,8 +54,9 @@ pub record IsTidied (d : Device) (old new : Image) : Type 0 where
 -- Where a merge of a slot had ended, the mark says so still, or the table that is to be left stands
 -- on the disk. So where power is cut before the mark is written, the next opening goes on.
 abbrev pub GoesOn : ℕ → Image → Image → Type 0
-GoesOn size old image = (m : UpdateMark) (g : Geometry) (t : Table)
+GoesOn size old image = (m : UpdateMark) (tail : Tail) (g : Geometry) (t : Table)
     → HasCompleted m old
-    → geometry_at size old ≡ Ok g
+    → tail_at m.physical size old ≡ Ok tail
+    → geometry_at tail.super_end old ≡ Ok g
     → slot_table g m.slot old ≡ Ok t
     → HasCompleted m image ⊎ (slot_table g m.slot image ≡ Ok (tidy_table g.max m.slot t))

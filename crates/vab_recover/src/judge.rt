@@ -35,6 +35,7 @@ use vab_geometry::Geometry;
 use vab_marks::{MarkPhase, UpdateMark};
 use vab_names::store_group;
 use vab_partitions::{bad_merging, bad_partition, bad_target, has_twins, same_device};
+use vab_physical::Tail;
 use vab_plan::{limits, parts};
 use vab_tables::{Partition, Table};
 
@@ -424,12 +425,13 @@ pub fn assemble(
     geometry: Geometry,
     control: Control,
     mark: UpdateMark,
+    tail: Tail,
     stored: Stored,
 ) -> Result<Device, StartFault>
     requires slot { mark.slot < 2 }
     requires keeps { KeepsRules table.now }
     requires own { IsOwn mark.slot (layout_of table.now).parts }
-    ensures is { IfOk result (λ d. IsAssembled d mark control geometry table.now stored) }
+    ensures is { IfOk result (λ d. IsAssembled d mark control tail geometry table.now stored) }
     ensures fault { OnErr result (result ≡ Err StartFault.NoMemory) }
 {
     let groups = limits(alloc, table, mark.slot)?;
@@ -442,6 +444,7 @@ pub fn assemble(
         geometry,
         control,
         mark,
+        tail,
         cap,
         groups,
         a,

@@ -17,8 +17,8 @@ pub use judge::judge_parts;
 pub use opening::{open_behind, start};
 pub use probing::probe;
 pub use read::{
-    MARK_SECTOR, read_control, read_geometry, read_if, read_mark, read_version, reads_both,
-    reads_statuses,
+    MARK_SECTOR, read_control, read_end, read_geometry, read_if, read_mark, read_version,
+    reads_both, reads_statuses, whole_disk,
 };
 pub use stores::{Stored, read_stores};
 pub use table::{Tables, read_tables};

@@ -37,9 +37,9 @@ fn open_framed<D: Disk>(
     frame: Frame,
 ) -> Result<(Device, Tables), StartFault>
     requires are { AreHeads (D.size d.old) frame.heads.mark frame.heads.control
-        frame.heads.geometry }
-    requires there { AreTablesThere (D.size d.old) frame.heads.geometry frame.heads.mark
-        frame.tables }
+        frame.heads.tail frame.heads.geometry }
+    requires there { AreTablesThere frame.heads.tail.super_end frame.heads.geometry
+        frame.heads.mark frame.tables }
     ensures opened { D.is_modelled
         → (image : Image)
         → SameSuper (D.seen d.old) image
@@ -52,7 +52,7 @@ fn open_framed<D: Disk>(
         → IfErr result (λ f. IsOfContents f → device (D.size d.old) image ≡ Err f) }
     ensures kept { IfOk result (λ r. IsDevice (with_tables r.1 r.0) (D.size d.old)) }
     ensures there { IfOk result
-        (λ r. AreTablesThere (D.size d.old) r.0.geometry r.0.mark r.1) }
+        (λ r. AreTablesThere r.0.tail.super_end r.0.geometry r.0.mark r.1) }
     ensures reads { OnlyReads D.Disk d.old d.new }
     ensures counts { CountsFaults D.Disk d.old d.new result }
 {
@@ -69,6 +69,7 @@ fn open_framed<D: Disk>(
                     heads.geometry,
                     heads.control,
                     heads.mark,
+                    heads.tail,
                     stored,
                 ) {
                     Err(fault) => Err(fault),
@@ -88,26 +89,27 @@ pub fn open_behind<D: Disk>(
     d: &mut D,
     heads: Heads,
 ) -> Result<(Device, Tables), StartFault>
-    requires are { AreHeads (D.size d.old) heads.mark heads.control heads.geometry }
+    requires are { AreHeads (D.size d.old) heads.mark heads.control heads.tail
+        heads.geometry }
     ensures opened { D.is_modelled
         → (image : Image)
         → SameSuper (D.seen d.old) image
         → IsHeaded (D.size d.old) image heads.mark heads.version heads.statuses.items
-        heads.control heads.geometry
+        heads.control heads.tail heads.geometry
         → IfOk result (λ r. IsOpened r.0 r.1 (D.size d.old) image) }
     ensures fault { D.is_modelled
         → (image : Image)
         → SameSuper (D.seen d.old) image
         → IsHeaded (D.size d.old) image heads.mark heads.version heads.statuses.items
-        heads.control heads.geometry
+        heads.control heads.tail heads.geometry
         → IfErr result (λ f. IsOfContents f → device (D.size d.old) image ≡ Err f) }
     ensures kept { IfOk result (λ r. IsDevice (with_tables r.1 r.0) (D.size d.old)) }
     ensures there { IfOk result
-        (λ r. AreTablesThere (D.size d.old) r.0.geometry r.0.mark r.1) }
+        (λ r. AreTablesThere r.0.tail.super_end r.0.geometry r.0.mark r.1) }
     ensures reads { OnlyReads D.Disk d.old d.new }
     ensures counts { CountsFaults D.Disk d.old d.new result }
 {
-    match read_tables(alloc, d, &heads.geometry, &heads.mark) {
+    match read_tables(alloc, d, heads.tail.super_end, &heads.geometry, &heads.mark) {
         Err(fault) => Err(fault),
         Ok(tables) => open_framed(alloc, d, Frame { heads, tables }),
     }
@@ -123,7 +125,7 @@ pub fn open<D: Disk>(alloc: Global, d: &mut D) -> Result<(Device, Tables), Start
         (λ f. IsNamed f ⊎ HasHeads (D.size d.old) (D.seen d.old)) }
     ensures kept { IfOk result (λ r. IsDevice (with_tables r.1 r.0) (D.size d.old)) }
     ensures there { IfOk result
-        (λ r. AreTablesThere (D.size d.old) r.0.geometry r.0.mark r.1) }
+        (λ r. AreTablesThere r.0.tail.super_end r.0.geometry r.0.mark r.1) }
     ensures reads { OnlyReads D.Disk d.old d.new }
     ensures counts { CountsFaults D.Disk d.old d.new result }
 {
@@ -147,7 +149,7 @@ fn look<D: Disk>(alloc: Global, d: &mut D) -> Result<(Device, Tables, Option<Tid
         (λ f. IsNamed f ⊎ HasHeads (D.size d.old) (D.seen d.old)) }
     ensures kept { IfOk result (λ r. IsDevice (with_tables r.1 r.0) (D.size d.old)) }
     ensures there { IfOk result
-        (λ r. AreTablesThere (D.size d.old) r.0.geometry r.0.mark r.1) }
+        (λ r. AreTablesThere r.0.tail.super_end r.0.geometry r.0.mark r.1) }
     ensures reads { OnlyReads D.Disk d.old d.new }
     ensures counts { CountsFaults D.Disk d.old d.new result }
 {
@@ -180,7 +182,8 @@ pub fn start<D: Disk>(alloc: Global, d: &mut D) -> Result<Device, StartFault>
     ensures kept { IfOk result (λ r. IsDevice r (D.size d.old)) }
     ensures fault { D.is_modelled → IfErr result
         (λ f. IsOfContents f → device (D.size d.old) (D.seen d.old) ≡ Err f) }
-    // Memory is refused only where size, mark, boot control and geometry are those of a device.
+    // Memory is refused only where size, mark, boot control, the end of `super` and geometry are
+    // those of a device.
     ensures memory { D.is_modelled → IfErr result
         (λ f. IsNamed f ⊎ HasHeads (D.size d.old) (D.seen d.old)) }
     ensures unwritten { IfErr result (λ f. (IsOfDisk f → ⊥) → OnlyReads D.Disk d.old d.new) }

@@ -8,7 +8,8 @@ ghost use Rattle.vab_geometry.specs.Geometry.{IsGeometry};
 ghost use Rattle.vab_device.specs.Faults.{Answers, IsOfContents, IsOfDisk};
 ghost use Rattle.vab_device.specs.Kept.{copies_end, super_bytes, has_both, reads_both, IsPhase};
 ghost use Rattle.vab_device.specs.Reading.{settled, mark_read, mark_in, control_read, control_in};
-ghost use Rattle.vab_device.specs.Reading.{geometry_at, statuses_at, version_at};
+ghost use Rattle.vab_device.specs.Reading.{geometry_at, statuses_at, tail_at, version_at};
+ghost use Rattle.vab_device.specs.Reading.{whole_disk};
 ghost use Rattle.vab_tidy.specs.Counts.{CountsFaults};
 ghost use Rattle.vab_recover.specs.Memory.{IsNamed};
 ghost use Rattle.vab_recover.specs.Opened.{is_merging, reads_statuses};
@@ -18,7 +19,8 @@ use vab_device::StartFault;
 use vab_disk::Disk;
 use vab_gate::get_sector;
 use vab_geometry::{Geometry, LoadFault, SUPER, load_geometry};
-use vab_marks::{MarkPhase, MarkVersion, UpdateMark, decode_mark};
+use vab_marks::{MarkPhase, MarkVersion, PhysicalSizes, UpdateMark, decode_mark};
+use vab_physical::{Tail, read_tail};
 use vab_statuses::{StatusFault, Statuses, read_statuses};
 
 /// The disk sector of the update mark.
@@ -197,12 +199,12 @@ pub fn read_control<D: Disk>(d: &mut D) -> Result<Control, StartFault>
     control(&sector)
 }
 
-/// Bytes of `super` on a disk of so many sectors.
-pub fn super_bytes(sectors: u64) -> u64
-    requires { sectors < 2 ^ 55 }
-    ensures { result ≡ super_bytes sectors }
+/// Bytes of `super`, which ends at this sector.
+pub fn super_bytes(super_end: u64) -> u64
+    requires { super_end < 2 ^ 55 }
+    ensures { result ≡ super_bytes super_end }
 {
-    512 * sectors.saturating_sub(SUPER)
+    512 * super_end.saturating_sub(SUPER)
 }
 
 /// Where the copies of the tables end, in bytes of `super`.
@@ -214,24 +216,56 @@ pub fn copies_end(geometry: &Geometry) -> u64
     12288 + 2 * u64::from(geometry.slots) * u64::from(geometry.max)
 }
 
-/// Reads the geometry.
-#[tactic(auto, unfolding(vab_device::specs::Reading::geometry_at))]
-pub fn read_geometry<D: Disk>(d: &mut D) -> Result<Geometry, StartFault>
+/// Where `super` ends on a disk of so many sectors without physical partitions: with the disk.
+pub fn whole_disk(sectors: u64) -> Tail
+    ensures { result ≡ whole_disk sectors }
+{
+    Tail {
+        sizes: PhysicalSizes { boot: 0, vbmeta: 0 },
+        super_end: sectors,
+    }
+}
+
+/// Reads the sizes of the physical partitions, where the mark says that there are some, and where
+/// `super` ends in front of them. Without any it ends with the disk.
+#[tactic(auto, unfolding(vab_device::specs::Reading::tail_at))]
+pub fn read_end<D: Disk>(d: &mut D, physical: bool) -> Result<Tail, StartFault>
     requires { 4120 ≤ D.size d.old }
-    ensures answers { D.is_modelled → Answers result (geometry_at (D.size d.old) (D.seen d.old)) }
+    ensures answers { D.is_modelled
+        → Answers result (tail_at physical (D.size d.old) (D.seen d.old)) }
     ensures named { IfErr result IsNamed }
-    ensures rules { IfOk result IsGeometry }
-    ensures copies_on { IfOk result (λ g. copies_end g ≤ super_bytes (D.size d.old)) }
+    ensures end { IfOk result (λ t. (4120 ≤ t.super_end) × (t.super_end ≤ D.size d.old)) }
     ensures reads { OnlyReads D.Disk d.old d.new }
     ensures counts { CountsFaults D.Disk d.old d.new result }
 {
-    let sectors = d.sectors();
+    if !physical {
+        return Ok(whole_disk(d.sectors()));
+    }
+    match read_tail(d) {
+        Ok(Some(tail)) => Ok(tail),
+        Ok(None) => Err(StartFault::BadPhysical),
+        Err(fault) => Err(StartFault::Disk(fault)),
+    }
+}
+
+/// Reads the geometry of a `super` that ends at this sector.
+#[tactic(auto, unfolding(vab_device::specs::Reading::geometry_at))]
+pub fn read_geometry<D: Disk>(d: &mut D, super_end: u64) -> Result<Geometry, StartFault>
+    requires enough { 4120 ≤ super_end }
+    requires ends { super_end ≤ D.size d.old }
+    ensures answers { D.is_modelled → Answers result (geometry_at super_end (D.seen d.old)) }
+    ensures named { IfErr result IsNamed }
+    ensures rules { IfOk result IsGeometry }
+    ensures copies_on { IfOk result (λ g. copies_end g ≤ super_bytes super_end) }
+    ensures reads { OnlyReads D.Disk d.old d.new }
+    ensures counts { CountsFaults D.Disk d.old d.new result }
+{
     let geometry = match load_geometry(d) {
         Ok(geometry) => geometry,
         Err(LoadFault::BothBad(_, _)) => return Err(StartFault::BadGeometry),
         Err(LoadFault::Disk(fault)) => return Err(StartFault::Disk(fault)),
     };
-    if copies_end(&geometry) > super_bytes(sectors) {
+    if copies_end(&geometry) > super_bytes(super_end) {
         return Err(StartFault::BadGeometry);
     }
     Ok(geometry)

@@ -24,7 +24,8 @@ use vab_tidy::{Tidying, migrate, tidy_if_due};
 // Repairs the tables that were read, the source's first.
 fn repair_tables<D: Disk>(d: &mut D, kept: &Device, tables: &Tables) -> Result<(), DiskFault>
     requires is { IsDevice (with_tables tables.now kept.now) (D.size d.old) }
-    requires there { AreTablesThere (D.size d.old) kept.now.geometry kept.now.mark tables.now }
+    requires there { AreTablesThere kept.now.tail.super_end kept.now.geometry
+        kept.now.mark tables.now }
     requires read { D.is_modelled
         → IsOpened kept.now tables.now (D.size d.old) (D.seen d.old) }
     ensures represents { D.is_modelled → OnOk result
@@ -58,7 +59,8 @@ fn repair_tables<D: Disk>(d: &mut D, kept: &Device, tables: &Tables) -> Result<(
 // Repairs the tables that were read, and goes on with version 2 where the mark has version 1.
 fn mend_copies<D: Disk>(d: &mut D, kept: &Device, tables: &Tables) -> Result<(), DiskFault>
     requires is { IsDevice (with_tables tables.now kept.now) (D.size d.old) }
-    requires there { AreTablesThere (D.size d.old) kept.now.geometry kept.now.mark tables.now }
+    requires there { AreTablesThere kept.now.tail.super_end kept.now.geometry
+        kept.now.mark tables.now }
     requires read { D.is_modelled
         → IsOpened kept.now tables.now (D.size d.old) (D.seen d.old) }
     ensures represents { D.is_modelled → OnOk result
@@ -100,7 +102,7 @@ pub fn mend<D: Disk>(
     tidying: Option<Tidying>,
 ) -> Result<Device, DiskFault>
     requires is { IsDevice (with_tables tables kept) (D.size d.old) }
-    requires there { AreTablesThere (D.size d.old) kept.geometry kept.mark tables }
+    requires there { AreTablesThere kept.tail.super_end kept.geometry kept.mark tables }
     requires read { D.is_modelled → IsOpened kept tables (D.size d.old) (D.seen d.old) }
     requires due { D.is_modelled → IsDue kept.mark (D.seen d.old) tidying }
     requires tidying { IfSome tidying

@@ -41,14 +41,14 @@ pub struct Tables {
 // Whether the block device lies in `super`, and its first logical sector behind the copies of the
 // tables.
 #[tactic(auto, unfolding(vab_layout::specs::Layout::layout_of))]
-fn lies_in(table: &Table, geometry: &Geometry, sectors: u64) -> bool
+fn lies_in(table: &Table, geometry: &Geometry, super_end: u64) -> bool
     requires keeps { KeepsRules table.now }
     requires geometry { IsGeometry geometry.now }
-    requires small { sectors < 2 ^ 55 }
-    ensures { result ≡ lies_in sectors geometry.now (layout_of table.now).device }
+    requires small { super_end < 2 ^ 55 }
+    ensures { result ≡ lies_in super_end geometry.now (layout_of table.now).device }
 {
     let device = &table.devices.as_slice()[0];
-    device.size <= super_bytes(sectors)
+    device.size <= super_bytes(super_end)
         && copies_end(geometry).div_ceil(512) <= device.first_logical_sector
 }
 
@@ -57,16 +57,18 @@ fn lies_in(table: &Table, geometry: &Geometry, sectors: u64) -> bool
 fn load<D: Disk>(
     alloc: Global,
     d: &mut D,
+    super_end: u64,
     geometry: &Geometry,
     slot: usize,
 ) -> Result<Loaded, StartFault>
     requires rules { IsGeometry geometry.now }
     requires slot { slot < 2 }
-    requires copies_on { copies_end geometry.now ≤ super_bytes (D.size d.old) }
+    requires ends { super_end ≤ D.size d.old }
+    requires copies_on { copies_end geometry.now ≤ super_bytes super_end }
     ensures table { D.is_modelled
         → IfOk result (λ l. slot_table geometry.now slot (D.seen d.old) ≡ Ok l.table) }
     ensures fault { D.is_modelled → IfErr result
-        (λ f. IsOfContents f → table_at (D.size d.old) geometry.now slot (D.seen d.old) ≡ Err f) }
+        (λ f. IsOfContents f → table_at super_end geometry.now slot (D.seen d.old) ≡ Err f) }
     ensures loaded { D.is_modelled → IfOk result (IsLoadedAt geometry.now slot (D.seen d.old)) }
     ensures text { IfOk result (λ l. IsTableText geometry.now.max l.text l.table) }
     ensures fits { IfOk result (λ l. length l.text ≤ geometry.now.max) }
@@ -87,24 +89,25 @@ fn load<D: Disk>(
 pub fn read_table<D: Disk>(
     alloc: Global,
     d: &mut D,
+    super_end: u64,
     geometry: &Geometry,
     slot: usize,
 ) -> Result<Loaded, StartFault>
     requires rules { IsGeometry geometry.now }
     requires slot { slot < 2 }
-    requires copies_on { copies_end geometry.now ≤ super_bytes (D.size d.old) }
+    requires ends { super_end ≤ D.size d.old }
+    requires copies_on { copies_end geometry.now ≤ super_bytes super_end }
     ensures ok { D.is_modelled → IfOk result
-        (λ l. table_at (D.size d.old) geometry.now slot (D.seen d.old) ≡ Ok l.table) }
+        (λ l. table_at super_end geometry.now slot (D.seen d.old) ≡ Ok l.table) }
     ensures fault { D.is_modelled → IfErr result
-        (λ f. IsOfContents f → table_at (D.size d.old) geometry.now slot (D.seen d.old) ≡ Err f) }
+        (λ f. IsOfContents f → table_at super_end geometry.now slot (D.seen d.old) ≡ Err f) }
     ensures loaded { D.is_modelled → IfOk result (IsLoadedAt geometry.now slot (D.seen d.old)) }
-    ensures there { IfOk result (IsTableThere (D.size d.old) geometry.now) }
+    ensures there { IfOk result (IsTableThere super_end geometry.now) }
     ensures reads { OnlyReads D.Disk d.old d.new }
     ensures counts { CountsFaults D.Disk d.old d.new result }
 {
-    let sectors = d.sectors();
-    let loaded = load(alloc, d, geometry, slot)?;
-    if !lies_in(&loaded.table, geometry, sectors) {
+    let loaded = load(alloc, d, super_end, geometry, slot)?;
+    if !lies_in(&loaded.table, geometry, super_end) {
         return Err(StartFault::BadTable(slot));
     }
     Ok(loaded)
@@ -114,20 +117,22 @@ pub fn read_table<D: Disk>(
 fn read_target<D: Disk>(
     alloc: Global,
     d: &mut D,
+    super_end: u64,
     geometry: &Geometry,
     mark: &UpdateMark,
 ) -> Result<Option<Loaded>, StartFault>
     requires rules { IsGeometry geometry.now }
     requires slot { mark.now.slot < 2 }
-    requires copies_on { copies_end geometry.now ≤ super_bytes (D.size d.old) }
+    requires ends { super_end ≤ D.size d.old }
+    requires copies_on { copies_end geometry.now ≤ super_bytes super_end }
     ensures ok { D.is_modelled → IfOk result (λ t.
-        tables_in (D.size d.old) geometry.now (target_slots mark.now) (D.seen d.old)
+        tables_in super_end geometry.now (target_slots mark.now) (D.seen d.old)
         ≡ Ok (target_tables t)) }
     ensures fault { D.is_modelled → IfErr result (λ f. IsOfContents f
-        → tables_in (D.size d.old) geometry.now (target_slots mark.now) (D.seen d.old) ≡ Err f) }
+        → tables_in super_end geometry.now (target_slots mark.now) (D.seen d.old) ≡ Err f) }
     ensures loaded { D.is_modelled → IfOk result (λ t. IfSome t
         (IsLoadedAt geometry.now (other_slot mark.now.slot) (D.seen d.old))) }
-    ensures there { IfOk result (λ t. IfSome t (IsTableThere (D.size d.old) geometry.now)) }
+    ensures there { IfOk result (λ t. IfSome t (IsTableThere super_end geometry.now)) }
     ensures both { IfOk result (λ t. is_some t ≡ reads_both mark.now.phase) }
     ensures reads { OnlyReads D.Disk d.old d.new }
     ensures counts { CountsFaults D.Disk d.old d.new result }
@@ -135,7 +140,7 @@ fn read_target<D: Disk>(
     if !reads_both(mark.phase) {
         return Ok(None);
     }
-    match read_table(alloc, d, geometry, 1 - mark.slot) {
+    match read_table(alloc, d, super_end, geometry, 1 - mark.slot) {
         Ok(loaded) => Ok(Some(loaded)),
         Err(fault) => Err(fault),
     }
@@ -146,29 +151,31 @@ fn read_target<D: Disk>(
 pub fn read_tables<D: Disk>(
     alloc: Global,
     d: &mut D,
+    super_end: u64,
     geometry: &Geometry,
     mark: &UpdateMark,
 ) -> Result<Tables, StartFault>
     requires rules { IsGeometry geometry.now }
     requires slot { mark.now.slot < 2 }
-    requires copies_on { copies_end geometry.now ≤ super_bytes (D.size d.old) }
+    requires ends { super_end ≤ D.size d.old }
+    requires copies_on { copies_end geometry.now ≤ super_bytes super_end }
     ensures ok { D.is_modelled → IfOk result (λ t.
-        tables_in (D.size d.old) geometry.now
+        tables_in super_end geometry.now
         (phase_at mark.now).tables (D.seen d.old)
         ≡ Ok (tables_of t)) }
     ensures fault { D.is_modelled → IfErr result (λ f. IsOfContents f
-        → tables_in (D.size d.old) geometry.now
+        → tables_in super_end geometry.now
         (phase_at mark.now).tables (D.seen d.old)
         ≡ Err f) }
     ensures loaded { D.is_modelled → IfOk result
         (AreLoaded geometry.now mark.now.slot (D.seen d.old)) }
-    ensures there { IfOk result (AreTablesThere (D.size d.old) geometry.now mark.now) }
+    ensures there { IfOk result (AreTablesThere super_end geometry.now mark.now) }
     ensures reads { OnlyReads D.Disk d.old d.new }
     ensures counts { CountsFaults D.Disk d.old d.new result }
 {
-    match read_table(alloc, d, geometry, mark.slot) {
+    match read_table(alloc, d, super_end, geometry, mark.slot) {
         Err(fault) => Err(fault),
-        Ok(source) => match read_target(alloc, d, geometry, mark) {
+        Ok(source) => match read_target(alloc, d, super_end, geometry, mark) {
             Err(fault) => Err(fault),
             Ok(target) => Ok(Tables { source, target }),
         },

@@ -1,4 +1,5 @@
 -- The page of a device by what is kept of it.
+use Rattle.std.proofs.Common.{arith}
 use Rattle.std.proofs.Common.{◌≡◌, ◌∙◌, ℕ, ◌+◌, ◌*◌, ◌^◌, ◌≤◌, inl, inr, true, false, List, []}
 use Rattle.std.proofs.Common.{◌∷◌, ◌++◌, length, get_or, map, Option, Some, None, refl, sym, ap}
 use Rattle.std.proofs.Common.{ap₂, subst, codes, decimal, Bor}
@@ -250,6 +251,8 @@ pub page_on : (d : Device) (size : ℕ) (image : Image)
     → page (state_on d image) ≡ kept_page d
 unfolding page state_on
 page_on d size image is whole =
+    let last : ℕ = d.tail.super_end in
+    let inside : AreSectors last image = λ s below. whole s (omega (arith, below, is.ends)) in
     let left : ℕ = count_at d.a + count_at d.b in
     let join : List ℕ → List ℕ → List ℕ = λ a b. a ++ b in
     ap₂ join
@@ -258,7 +261,7 @@ page_on d size image is whole =
     (ap₂ join
     (ap (join (texts.cap_line d.cap ++ texts.current_line d.control.current))
     (phase_on image d.mark left d.plan is.planned))
-    (slot_on image size whole 0 d.control.a d.a is.parts_a))
-    (slot_on image size whole 1 d.control.b d.b is.parts_b))
+    (slot_on image last inside 0 d.control.a d.a is.parts_a))
+    (slot_on image last inside 1 d.control.b d.b is.parts_b))
     (plan_on image d.mark left d.plan))
-    (overlay_line_on image size (parts_at d d.mark.slot) d.overlay whole is.overlay)
+    (overlay_line_on image last (parts_at d d.mark.slot) d.overlay inside is.overlay)

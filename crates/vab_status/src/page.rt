@@ -24,7 +24,6 @@ pub(crate) fn push_line(line: &Line, page: &mut Vec<u8>) -> Result<(), NoMemory>
 }
 
 /// The page of a device. It reads nothing of the disk; memory may be refused.
-#[tactic(auto, using(crate::proofs::PageLaws::page_on))]
 pub fn status_page(alloc: Global, device: &Device) -> Result<Vec<u8>, NoMemory>
     requires { (size : ℕ) × IsDevice device.now size }
     ensures { (size : ℕ) (image : Image)

@@ -26,6 +26,7 @@ pub(crate) fn is_of_contents(fault: &StartFault) -> bool
         StartFault::TooSmall(_, _) => true,
         StartFault::BadMark(_) => true,
         StartFault::BadControl(_) => true,
+        StartFault::BadPhysical => true,
         StartFault::BadGeometry => true,
         StartFault::BadTable(_) => true,
         StartFault::BadPartition(_) => true,

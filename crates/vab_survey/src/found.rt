@@ -82,7 +82,7 @@ pub(crate) fn said_mark<D: Disk>(d: &mut D) -> Result<Said<UpdateMark>, StartFau
     }
 }
 
-/// The geometry.
+/// The geometry of a `super` that ends with the disk.
 pub(crate) fn said_geometry<D: Disk>(d: &mut D) -> Result<Said<Geometry>, StartFault>
     requires { 4120 ≤ D.size d.old }
     ensures said { D.is_modelled
@@ -94,7 +94,8 @@ pub(crate) fn said_geometry<D: Disk>(d: &mut D) -> Result<Said<Geometry>, StartF
     ensures reads { OnlyReads D.Disk d.old d.new }
     ensures counts { CountsFaults D.Disk d.old d.new result }
 {
-    match read_geometry(d) {
+    let sectors = d.sectors();
+    match read_geometry(d, sectors) {
         Ok(geometry) => Ok(Ok(geometry)),
         Err(fault) if is_of_contents(&fault) => Ok(Err(fault)),
         Err(fault) => Err(fault),
@@ -234,7 +235,8 @@ pub(crate) fn found_tables<D: Disk>(
     ensures reads { OnlyReads D.Disk d.old d.new }
     ensures counts { CountsFaults D.Disk d.old d.new result }
 {
-    match read_tables(alloc, d, geometry, mark) {
+    let sectors = d.sectors();
+    match read_tables(alloc, d, sectors, geometry, mark) {
         Ok(tables) => match judge_under(alloc, d, &tables, mark) {
             Ok(()) => match found_stores(alloc, d, geometry, &tables, mark, statuses) {
                 Ok(stores) => Ok(Behind {

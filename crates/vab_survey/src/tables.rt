@@ -91,7 +91,7 @@ pub fn tables_page<D: Disk>(alloc: Global, d: &mut D) -> Result<TablesPage, Star
     if sectors < MIN_SECTORS {
         return Err(StartFault::TooSmall(MIN_SECTORS, sectors));
     }
-    match read_geometry(d) {
+    match read_geometry(d, sectors) {
         Err(fault) => Err(fault),
         Ok(geometry) => tables_at(alloc, d, geometry),
     }

@@ -17,6 +17,8 @@ use Rattle.vab_marks.specs.declared.mark.MarkPhase.TheVariants as marks
 use Rattle.vab_marks.specs.declared.status.PartStatus.{PartStatus}
 use Rattle.vab_tables.specs.declared.table.Table.{Table}
 use Rattle.vab_geometry.specs.declared.geometry.Geometry.{Geometry}
+use Rattle.vab_physical.specs.declared.tail.Tail.{Tail}
+use Rattle.vab_targets.proofs.EndLaws.{EndsOn, tail_ends, whole_super}
 use Rattle.vab_names.specs.Names.{is_of_slot, in_slot, store_of, default_name, most_partitions}
 use Rattle.vab_names.proofs.NameCases.{ne_name, default_not_own}
 use Rattle.vab_layout.specs.declared.layout.Part.{Part}
@@ -229,14 +231,16 @@ abbrev idle_at : UpdateMark
     → ℕ
     → List (Option PartStatus)
     → Control
+    → Tail
     → Geometry
     → Table
     → List Scanned
     → Read
-idle_at base slot statuses c g t scanned = record {
+idle_at base slot statuses c tail g t scanned = record {
   mark = rephased marks.Idle (resloted slot base);
   statuses = statuses;
   control = c;
+  tail = tail;
   geometry = g;
   tables = t ∷ [];
   scanned = scanned;
@@ -247,11 +251,12 @@ record HasIdle (size : ℕ) (image : Image) (m : Mounted) : Type 0 where
   slot : ℕ
   statuses : List (Option PartStatus)
   c : Control
+  tail : Tail
   g : Geometry
   t : Table
   scanned : List Scanned
-  table : table_at size g slot image ≡ Ok t
-  read : IsReadAs size image m (idle_at base slot statuses c g t scanned)
+  table : table_at tail.super_end g slot image ≡ Ok t
+  read : IsReadAs size image m (idle_at base slot statuses c tail g t scanned)
 
 phase_said : (r : Read) (image : Image)
     → (mounted_on (kept r) image).state.phase ≡ phase_on (kept r) image
@@ -277,13 +282,14 @@ has_idle size image m is phase plain =
     let marked : r ≡ record r { mark = rephased marks.Idle r.mark } =
     (λ i. record r { mark = is_marked i }) in
     let now = subst (IsReadAs size image m) marked (record { reads = was.reads; is = was.is }) in
-    let one = one_of size r.geometry r.mark.slot image r.tables now.reads.tables in
+    let one = one_of r.tail.super_end r.geometry r.mark.slot image r.tables now.reads.tables in
     let form : record r { mark = rephased marks.Idle r.mark }
-    ≡ idle_at r.mark r.mark.slot r.statuses r.control r.geometry one.0 r.scanned =
+    ≡ idle_at r.mark r.mark.slot r.statuses r.control r.tail r.geometry one.0 r.scanned =
     (λ i. record {
       mark = rephased marks.Idle r.mark;
       statuses = r.statuses;
       control = r.control;
+      tail = r.tail;
       geometry = r.geometry;
       tables = one.1 i;
       scanned = r.scanned;
@@ -293,6 +299,7 @@ has_idle size image m is phase plain =
       slot = r.mark.slot;
       statuses = r.statuses;
       c = r.control;
+      tail = r.tail;
       g = r.geometry;
       t = one.0;
       scanned = r.scanned;
@@ -313,23 +320,27 @@ Begins apart m n =
 
 module _
     (size : ℕ) (image : Image) (base : UpdateMark) (slot : ℕ)
-    (statuses : List (Option PartStatus)) (c : Control) (g : Geometry) (t : Table)
-    (ss : List Scanned)
+    (statuses : List (Option PartStatus)) (c : Control) (tail : Tail) (g : Geometry)
+    (t : Table) (ss : List Scanned)
     (whole : HasWholeSectors size image)
-    (reads : Reads size (idle_at base slot statuses c g t ss) image)
-    (table : table_at size g slot image ≡ Ok t) where
+    (reads : Reads size (idle_at base slot statuses c tail g t ss) image)
+    (table : table_at tail.super_end g slot image ≡ Ok t) where
   abbrev r : Read
-  r = idle_at base slot statuses c g t ss
+  r = idle_at base slot statuses c tail g t ss
 
   lower : slot < 2
   lower = slot_below image r.mark reads.mark
 
-  enough : 4120 ≤ size
-  enough = leb-true 4120 size reads.enough
+  ends : EndsOn size tail
+  ends =
+      tail_ends base.physical size image tail (leb-true 4120 size reads.enough) reads.tail
+
+  inside : HasWholeSectors tail.super_end image
+  inside = whole_super size image tail ends.1 whole
 
   from_at : (k : ℕ)
       → k < 2
-      → layout_at (mounted_on (kept (idle_at base k statuses c g t ss)) image).places k
+      → layout_at (mounted_on (kept (idle_at base k statuses c tail g t ss)) image).places k
       ≡ Some (plain k (layout_of t))
   from_at zero lt = refl
   from_at (suc zero) lt = refl
@@ -337,7 +348,7 @@ module _
 
   images_are : (k : ℕ)
       → k < 2
-      → images_at (mounted_on (kept (idle_at base k statuses c g t ss)) image).state k
+      → images_at (mounted_on (kept (idle_at base k statuses c tail g t ss)) image).state k
       ≡ Some (map (image_on image) (parts_of k (layout_of t)))
   unfolding state_on
   images_are zero lt = refl
@@ -356,15 +367,16 @@ module _
   unfolding state_on
   current_on = current
 
-  parts : AreParts size (parts_of slot (layout_of t))
+  parts : AreParts tail.super_end (parts_of slot (layout_of t))
   parts =
       let own : IsOwn slot (layout_of t).parts =
       own_kept most_partitions slot (layout_of t).parts (omega arith)
       (none_named _
       (first_kept (own_check most_partitions slot t) [] (parts_all r image reads.parts)).0) in
-      let read : IsRead size g t =
-      table_rules size image g slot t whole enough lower reads.geometry table in
-      parts_kept size slot g (layout_of t) enough (layout_keeps t read.rules) own read.lies
+      let read : IsRead tail.super_end g t =
+      table_rules tail.super_end image g slot t inside ends.0 lower reads.geometry table in
+      parts_kept tail.super_end slot g (layout_of t) ends.0 (layout_keeps t read.rules) own
+      read.lies
 
   begins_at : (apart : Bool) → Begins apart (mounted_on (kept r) image) slot
   begins_at apart done =
@@ -381,7 +393,7 @@ module _
       ≡ begun_plan apart (map (image_on image) (parts_of slot l)) =
       ap (replanned slot none)
       (sym (fitting_is g.max given made.0 made.1))
-      ∙ plan_begun apart size image slot l lower whole parts in (
+      ∙ plan_begun apart tail.super_end image slot l lower inside parts in (
         map (image_on image) (parts_of slot l),
         images_are slot lower,
         ap (λ (e : Effect Mounted). (after_of m e).state)
@@ -423,8 +435,8 @@ begin_by size image m apart whole is plain done =
     let h = has_idle size image m is idle plain in
     let begins : Begins apart m m.state.control.current =
     subst (λ (x : Mounted). Begins apart x x.state.control.current) (sym h.read.is)
-    (begins_current size image h.base h.slot h.statuses h.c h.g h.t h.scanned whole h.read.reads
-    h.table apart) in
+    (begins_current size image h.base h.slot h.statuses h.c h.tail h.g h.t h.scanned whole
+    h.read.reads h.table apart) in
     let from : Keeps apart m (begin_effect m apart Idle) = begins in
     subst (λ (phase : Phase). Keeps apart m (begin_effect m apart phase)) (sym idle) from done
 

@@ -13,6 +13,8 @@ use Rattle.vab_statuses.specs.Statuses.{written_in}
 use Rattle.vab_tables.specs.declared.table.Table.{Table}
 use Rattle.vab_tables.specs.Rules.{KeepsRules}
 use Rattle.vab_geometry.specs.declared.geometry.Geometry.{Geometry}
+use Rattle.vab_physical.specs.declared.tail.Tail.{Tail}
+use Rattle.vab_targets.proofs.EndLaws.{EndsOn, tail_ends, whole_super}
 use Rattle.vab_names.specs.Names.{is_of_slot, base_of, store_of, most_partitions}
 use Rattle.vab_names.proofs.NameCases.{same_name}
 use Rattle.vab_layout.specs.declared.layout.Part.{Part as PartOfLayout}
@@ -103,11 +105,12 @@ record HasRead (size : ℕ) (image : Image) (m : Mounted) : Type 0 where
   slot : ℕ
   statuses : List (Option PartStatus)
   seen : Control
+  tail : Tail
   g : Geometry
   s : Table
   t : Table
   scanned : List Scanned
-  read : IsReadAs size image m (read_at base slot statuses seen g s t scanned)
+  read : IsReadAs size image m (read_at base slot statuses seen tail g s t scanned)
 
 has_read : (size : ℕ) (image : Image) (m : Mounted) (source : ℕ) (plan : Plan)
     → IsIn size m image
@@ -124,14 +127,17 @@ has_read size image m source plan is phase =
     let marked : r ≡ record r { mark = rephased marks.Installing r.mark } =
     (λ i. record r { mark = is_marked i }) in
     let now = subst (IsReadAs size image m) marked (record { reads = was.reads; is = was.is }) in
-    let two = two_tables size r.geometry r.mark.slot (other_slot r.mark.slot) image r.tables
+    let two = two_tables r.tail.super_end r.geometry r.mark.slot (other_slot r.mark.slot) image
+    r.tables
     now.reads.tables in
     let form : record r { mark = rephased marks.Installing r.mark }
-    ≡ read_at r.mark r.mark.slot r.statuses r.control r.geometry two.source two.target r.scanned =
+    ≡ read_at r.mark r.mark.slot r.statuses r.control r.tail r.geometry two.source
+    two.target r.scanned =
     (λ i. record {
       mark = rephased marks.Installing r.mark;
       statuses = r.statuses;
       control = r.control;
+      tail = r.tail;
       geometry = r.geometry;
       tables = two.are i;
       scanned = r.scanned;
@@ -141,6 +147,7 @@ has_read size image m source plan is phase =
       slot = r.mark.slot;
       statuses = r.statuses;
       seen = r.control;
+      tail = r.tail;
       g = r.geometry;
       s = two.source;
       t = two.target;
@@ -181,12 +188,12 @@ bare_said r image = refl
 
 module _
     (size : ℕ) (image : Image) (base : UpdateMark) (slot : ℕ)
-    (statuses : List (Option PartStatus)) (seen : Control) (g : Geometry) (s t : Table)
-    (ss : List Scanned)
+    (statuses : List (Option PartStatus)) (seen : Control) (tail : Tail) (g : Geometry)
+    (s t : Table) (ss : List Scanned)
     (whole : HasWholeSectors size image)
-    (reads : Reads size (read_at base slot statuses seen g s t ss) image) where
+    (reads : Reads size (read_at base slot statuses seen tail g s t ss) image) where
   abbrev r : Read
-  r = read_at base slot statuses seen g s t ss
+  r = read_at base slot statuses seen tail g s t ss
 
   abbrev o : ℕ
   o = other_slot slot
@@ -209,14 +216,18 @@ module _
   below : slot < 2
   below = slot_below image r.mark reads.mark
 
-  enough : 4120 ≤ size
-  enough = leb-true 4120 size reads.enough
+  ends : EndsOn size tail
+  ends =
+      tail_ends base.physical size image tail (leb-true 4120 size reads.enough) reads.tail
+
+  inside : HasWholeSectors tail.super_end image
+  inside = whole_super size image tail ends.1 whole
 
   -- ---- the tables' places
 
   from_at : (k : ℕ)
       → k < 2
-      → layout_at (mounted_on (kept (read_at base k statuses seen g s t ss)) image).places k
+      → layout_at (mounted_on (kept (read_at base k statuses seen tail g s t ss)) image).places k
       ≡ Some (plain k (layout_of s))
   from_at zero lt = refl
   from_at (suc zero) lt = refl
@@ -224,7 +235,7 @@ module _
 
   to_at : (k : ℕ)
       → k < 2
-      → layout_at (mounted_on (kept (read_at base k statuses seen g s t ss)) image).places
+      → layout_at (mounted_on (kept (read_at base k statuses seen tail g s t ss)) image).places
       (other_slot k)
       ≡ Some (layout_of t)
   to_at zero lt = refl
@@ -275,13 +286,14 @@ module _
 
   update : IsUpdateBeside (other_slot slot) twins (layout_of s) (layout_of t)
   update =
-      let two = two_tables size g slot o image (s ∷ t ∷ []) reads.tables in
+      let two = two_tables tail.super_end g slot o image (s ∷ t ∷ []) reads.tables in
       let tables : two.source ∷ two.target ∷ [] ≡ s ∷ t ∷ [] = sym two.are in
       let source_is : two.source ≡ s = cc in
       let target_is : two.target ≡ t = cc in
-      let source = table_rules size image g slot two.source whole enough below reads.geometry
-      two.source_read in
-      let target = table_rules size image g o two.target whole enough (other_slot_below slot)
+      let source = table_rules tail.super_end image g slot two.source inside ends.0 below
+      reads.geometry two.source_read in
+      let target = table_rules tail.super_end image g o two.target inside ends.0
+      (other_slot_below slot)
       reads.geometry two.target_read in
       record {
         low = other_slot_below slot;
@@ -442,15 +454,17 @@ is_installed size image m source plan whole is phase =
       apart = h.base.apart;
       entries = map (entry_on image) (plan_of (other_slot h.slot) (layout_of h.t) h.scanned);
     } in
-    let there = installed size image h.base h.slot h.statuses h.seen h.g h.s h.t h.scanned whole
+    let there = installed size image h.base h.slot h.statuses h.seen h.tail h.g h.s h.t h.scanned
+    whole
     h.read.reads in
-    let read = phase_read size image h.base h.slot h.statuses h.seen h.g h.s h.t h.scanned whole
+    let read = phase_read size image h.base h.slot h.statuses h.seen h.tail h.g h.s h.t h.scanned
+    whole
     h.read.reads in
     let same = same_update h.slot source next plan
     (sym read ∙ sym (ap (λ (x : Mounted). x.state.phase) h.read.is) ∙ phase) in
     subst (λ (x : Mounted). IsInstalled x source plan) (sym h.read.is)
     (subst (λ (x : Plan). IsInstalled (mounted_on (kept
-    (read_at h.base h.slot h.statuses h.seen h.g h.s h.t h.scanned)) image) source x) same.1
+    (read_at h.base h.slot h.statuses h.seen h.tail h.g h.s h.t h.scanned)) image) source x) same.1
     (subst (λ (n : ℕ). IsInstalled (mounted_on (kept
-    (read_at h.base h.slot h.statuses h.seen h.g h.s h.t h.scanned)) image) n next) same.0
+    (read_at h.base h.slot h.statuses h.seen h.tail h.g h.s h.t h.scanned)) image) n next) same.0
     there))

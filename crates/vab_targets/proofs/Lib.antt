@@ -13,3 +13,4 @@ pub mod Updates
 pub mod PlainIdle
 pub mod Begun
 mod WrittenLaws
+pub mod EndLaws

@@ -50,10 +50,10 @@ pub plain_idle : (size : ℕ) (r : Read) (image : Image)
     → r.mark ≡ rephased marks.Idle r.mark
 plain_idle size r image reads phase plain =
     let idle = idle_read_of size r image reads phase in
-    let tables : tables_in size r.geometry (r.mark.slot ∷ []) image ≡ Ok r.tables =
-    subst (λ (p : MarkPhase). tables_in size r.geometry (phase_in p r.mark).tables image
+    let tables : tables_in r.tail.super_end r.geometry (r.mark.slot ∷ []) image ≡ Ok r.tables =
+    subst (λ (p : MarkPhase). tables_in r.tail.super_end r.geometry (phase_in p r.mark).tables image
     ≡ Ok r.tables) idle reads.tables in
-    let one = one_of size r.geometry r.mark.slot image r.tables tables in
+    let one = one_of r.tail.super_end r.geometry r.mark.slot image r.tables tables in
     let l : Layout = layout_of one.0 in
     let parts = subst (λ (ts : List Table).
     first_fault ((phase_in marks.Idle r.mark).part_checks most_partitions ts) ≡ None) one.1

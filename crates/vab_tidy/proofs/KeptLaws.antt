@@ -17,38 +17,39 @@ use Rattle.vab_device.proofs.SlotTable.{no_update}
 use Rattle.vab_tidy.proofs.AloneLaws.{place_is}
 
 -- the table of the slot alone keeps the rules of a kept table
-pub alone_of : (size slot : ℕ) (g : Geometry) (t : Table) (x : Alone)
+pub alone_of : (super_end slot : ℕ) (g : Geometry) (t : Table) (x : Alone)
     → IsGeometry g
-    → IsTableOf size g slot t
+    → IsTableOf super_end g slot t
     → IsAlone g.max slot t x
-    → IsTableOf size g slot x.table
-alone_of size slot g t x geometry of is = record {
+    → IsTableOf super_end g slot x.table
+alone_of super_end slot g t x geometry of is = record {
   rules = is.rules;
   small = omega (arith, is.size, geometry.most);
   own = is.own;
   lies =
-      ap (lies_in size g) (device_is slot t x.table (place_is slot t x.table is.layout)) ∙ of.lies;
+      ap (lies_in super_end g) (device_is slot t x.table (place_is slot t x.table is.layout))
+      ∙ of.lies;
 }
 
 -- ---- the device with it
 
-with_a : (size : ℕ) (g : Geometry) (n : ℕ) (x : Option Table) (u : Table)
+with_a : (super_end : ℕ) (g : Geometry) (n : ℕ) (x : Option Table) (u : Table)
     → n < 2
-    → IsTableOf size g n u
-    → IsKeptTable size g 0 x
-    → IsKeptTable size g 0 (if n == 0 then Some u else x)
-with_a size g zero x u below of was = of
-with_a size g (suc zero) x u below of was = was
-with_a size g (suc (suc n)) x u below of was = absurd (omega (arith, below))
+    → IsTableOf super_end g n u
+    → IsKeptTable super_end g 0 x
+    → IsKeptTable super_end g 0 (if n == 0 then Some u else x)
+with_a super_end g zero x u below of was = of
+with_a super_end g (suc zero) x u below of was = was
+with_a super_end g (suc (suc n)) x u below of was = absurd (omega (arith, below))
 
-with_b : (size : ℕ) (g : Geometry) (n : ℕ) (x : Option Table) (u : Table)
+with_b : (super_end : ℕ) (g : Geometry) (n : ℕ) (x : Option Table) (u : Table)
     → n < 2
-    → IsTableOf size g n u
-    → IsKeptTable size g 1 x
-    → IsKeptTable size g 1 (if n == 0 then x else Some u)
-with_b size g zero x u below of was = was
-with_b size g (suc zero) x u below of was = of
-with_b size g (suc (suc n)) x u below of was = absurd (omega (arith, below))
+    → IsTableOf super_end g n u
+    → IsKeptTable super_end g 1 x
+    → IsKeptTable super_end g 1 (if n == 0 then x else Some u)
+with_b super_end g zero x u below of was = was
+with_b super_end g (suc zero) x u below of was = of
+with_b super_end g (suc (suc n)) x u below of was = absurd (omega (arith, below))
 
 own_at : (n : ℕ) (a b : Option Table) (u : Table)
     → n < 2
@@ -76,7 +77,7 @@ table_now d u below = own_at d.mark.slot d.table_a d.table_b u below
 pub table_kept : (d : Device) (size : ℕ) (u : Table)
     → IsDevice d size
     → d.mark.phase ≡ marks.Idle
-    → IsTableOf size d.geometry d.mark.slot u
+    → IsTableOf d.tail.super_end d.geometry d.mark.slot u
     → IsDevice (with_table u d) size
 table_kept d size u dev idle of =
     let other : table_of_slot (with_table u d) (other_slot d.mark.slot)
@@ -84,6 +85,7 @@ table_kept d size u dev idle of =
     other_at d.mark.slot d.table_a d.table_b u dev.slot in
     record {
       enough = dev.enough;
+      ends = dev.ends;
       geometry = dev.geometry;
       control = dev.control;
       phase = dev.phase;
@@ -95,8 +97,8 @@ table_kept d size u dev idle of =
       copies_on = dev.copies_on;
       parts_a = dev.parts_a;
       parts_b = dev.parts_b;
-      table_a = with_a size d.geometry d.mark.slot d.table_a u dev.slot of dev.table_a;
-      table_b = with_b size d.geometry d.mark.slot d.table_b u dev.slot of dev.table_b;
+      table_a = with_a d.tail.super_end d.geometry d.mark.slot d.table_a u dev.slot of dev.table_a;
+      table_b = with_b d.tail.super_end d.geometry d.mark.slot d.table_b u dev.slot of dev.table_b;
       source = ap is_some (table_now d u dev.slot);
       target = ap is_some other ∙ dev.target;
       planned = dev.planned;

@@ -21,7 +21,8 @@ use Rattle.vab_device.specs.Reading.{IsOfTables, settled, version_at}
 use Rattle.vab_device.proofs.Behind.{images_behind}
 use Rattle.vab_device.proofs.MarkLaws.{as_phase, mark_flags}
 use Rattle.vab_device.proofs.ReadingLaws.{reads_kept, device_same, read_from}
-use Rattle.vab_device.proofs.SameLaws.{control_same, geometry_same, tables_agree, images_same}
+use Rattle.vab_device.proofs.SameLaws.{control_same, tail_kept, geometry_same, tables_agree}
+use Rattle.vab_device.proofs.SameLaws.{images_same}
 use Rattle.vab_device.proofs.StayLaws.{copy_stays, copies_from, bare_read}
 use Rattle.vab_device.proofs.StoreLaws.{statuses_kept}
 use Rattle.vab_tidy.specs.Tidied.{HasCompleted, is_completed}
@@ -104,7 +105,7 @@ module _
     (mark : mark_in image ≡ Ok (rephased marks.Idle d.mark))
     (version : version_at image ≡ Two) where
   abbrev r : Read
-  r = read_at d.mark d.control d.geometry t
+  r = read_at d.mark d.control d.tail d.geometry t
 
   behind : (s : ℕ) → 4096 ≤ s → image s ≡ old s
   behind s le = elsewhere s (λ e. omega (arith, e, le))
@@ -113,17 +114,19 @@ module _
   of_tables s there =
       elsewhere s (λ e. omega (arith, e, copies_from d.geometry (d.mark.slot ∷ []) s there))
 
-  same_read : SameRead size (read_at d.mark d.control d.geometry t) old image
+  same_read : SameRead size (read_at d.mark d.control d.tail d.geometry t) old image
   same_read = record {
     most = omega (arith, ap partitions_under (version ∙ sym st.version));
     mark = mark ∙ sym st.reads.mark;
     statuses = statuses_kept false old image (version ∙ sym st.version)
         (λ read s is. elsewhere s (λ e. omega (arith, e, is.from)));
     control = control_same _ _ old image (elsewhere 4 (λ e. omega (arith, e)));
-    geometry = geometry_same size old image
+    tail = tail_kept d.mark.physical size old image
+        (λ some. elsewhere 2113 (λ e. omega (arith, e)));
+    geometry = geometry_same d.tail.super_end old image
         (elsewhere 4104 (λ e. omega (arith, e)))
         (elsewhere 4112 (λ e. omega (arith, e)));
-    tables = tables_agree size d.geometry (d.mark.slot ∷ []) old image of_tables;
+    tables = tables_agree d.tail.super_end d.geometry (d.mark.slot ∷ []) old image of_tables;
     stores = refl;
     images_a = images_same old image (kept r).a
         (λ s is. behind s (images_behind size 4096 0 _ _ r old s st.reads (omega arith) is));
@@ -135,13 +138,13 @@ module _
 
   pub marked_means : device size image ≡ device size old
   marked_means =
-      device_same size (read_at d.mark d.control d.geometry t) old image st.reads same_read
+      device_same size (read_at d.mark d.control d.tail d.geometry t) old image st.reads same_read
 
   pub marked_represents : Represents d size image
   marked_represents = record {
-    read = read_at d.mark d.control d.geometry t;
+    read = read_at d.mark d.control d.tail d.geometry t;
     reads =
-        reads_kept size (read_at d.mark d.control d.geometry t) old image st.reads same_read;
+        reads_kept size (read_at d.mark d.control d.tail d.geometry t) old image st.reads same_read;
     is = st.is;
     control = ap control_of (elsewhere 4 (λ e. omega (arith, e))) ∙ st.control;
     copies = (

@@ -17,7 +17,8 @@ use Rattle.vab_device.specs.Phases.{phase_at}
 use Rattle.vab_device.specs.Reading.{Read, Reads, SameRead, kept, stores_of, mark_read, mark_in}
 use Rattle.vab_device.specs.Reading.{version_at, most_at, statuses_read, statuses_at}
 use Rattle.vab_device.proofs.Behind.{images_behind, stores_behind, plan_behind, overlay_behind}
-use Rattle.vab_device.proofs.SameLaws.{control_same, geometry_same, tables_agree, images_same}
+use Rattle.vab_device.proofs.SameLaws.{control_same, tail_kept, geometry_same, tables_agree}
+use Rattle.vab_device.proofs.SameLaws.{images_same}
 use Rattle.vab_device.proofs.StayLaws.{copies_from}
 use Rattle.vab_device.proofs.StoreLaws.{stores_kept, plan_kept, overlay_kept}
 use Rattle.vab_tidy.specs.Migration.{IsOfAdded}
@@ -32,6 +33,7 @@ same_then size r old mid new first then_ = record {
   mark = then_.mark ∙ first.mark;
   statuses = then_.statuses ∙ first.statuses;
   control = then_.control ∙ first.control;
+  tail = then_.tail ∙ first.tail;
   geometry = then_.geometry ∙ first.geometry;
   tables = then_.tables ∙ first.tables;
   stores = then_.stores ∙ first.stores;
@@ -71,9 +73,11 @@ module _
     mark = marks_same old new mark;
     statuses = statuses;
     control = control_same _ _ old new (low 4 (omega arith));
-    geometry = geometry_same size old new (high 4104 (omega arith)) (high 4112 (omega arith));
+    tail = tail_kept r.mark.physical size old new (λ some. high 2113 (omega arith));
+    geometry =
+        geometry_same r.tail.super_end old new (high 4104 (omega arith)) (high 4112 (omega arith));
     tables =
-        tables_agree size r.geometry (phase_at r.mark).tables old new
+        tables_agree r.tail.super_end r.geometry (phase_at r.mark).tables old new
         (λ s is.
         high s (omega (
           arith,

@@ -8,6 +8,7 @@ use Rattle.vab_geometry.specs.declared.geometry.Geometry.{Geometry}
 use Rattle.vab_geometry.specs.Geometry.{IsGeometry}
 use Rattle.vab_tables.specs.declared.table.Table.{Table}
 use Rattle.vab_tables.specs.Text.{IsTableText}
+use Rattle.vab_physical.specs.declared.tail.Tail.{Tail}
 use Rattle.vab_lpstore.specs.Layout.{copy_sectors, BothHold}
 use Rattle.vab_lpstore.specs.Loading.{slot_table}
 use Rattle.vab_lpstore.specs.Storing.{SameElsewhere, LeavesEitherTable}
@@ -32,24 +33,25 @@ use Rattle.vab_device.proofs.StandsLaws.{StandsIdle, read_at}
 -- ---- what is kept
 
 -- another table of which the same is kept
-kept_alone : (m : UpdateMark) (slot : ℕ) (seen c : Control) (g : Geometry) (t u : Table)
+kept_alone : (m : UpdateMark) (slot : ℕ) (seen c : Control) (tail : Tail) (g : Geometry)
+    (t u : Table)
     → slot < 2
     → layout_of u ≡ plain slot (layout_of t)
-    → with_table u (kept_with (read_at (resloted slot m) seen g t) c)
-    ≡ kept_with (read_at (resloted slot m) seen g u) c
-kept_alone m zero seen c g t u below is =
-    (λ i. record (kept_with (read_at (resloted 0 m) seen g u) c) {
+    → with_table u (kept_with (read_at (resloted slot m) seen tail g t) c)
+    ≡ kept_with (read_at (resloted slot m) seen tail g u) c
+kept_alone m zero seen c tail g t u below is =
+    (λ i. record (kept_with (read_at (resloted 0 m) seen tail g u) c) {
       cap = sym (cap_is 0 t u (place_is 0 t u is)) i;
       groups = sym (limits_are 0 t u (place_is 0 t u is)) i;
       a = Some (sym (parts_are 0 t u (place_is 0 t u is)) i);
     })
-kept_alone m (suc zero) seen c g t u below is =
-    (λ i. record (kept_with (read_at (resloted 1 m) seen g u) c) {
+kept_alone m (suc zero) seen c tail g t u below is =
+    (λ i. record (kept_with (read_at (resloted 1 m) seen tail g u) c) {
       cap = sym (cap_is 1 t u (place_is 1 t u is)) i;
       groups = sym (limits_are 1 t u (place_is 1 t u is)) i;
       b = Some (sym (parts_are 1 t u (place_is 1 t u is)) i);
     })
-kept_alone m (suc (suc n)) seen c g t u below is = absurd (omega (arith, below))
+kept_alone m (suc (suc n)) seen c tail g t u below is = absurd (omega (arith, below))
 
 -- ---- the disk
 
@@ -58,7 +60,7 @@ module _
     (st : StandsIdle d size old t)
     (below : d.mark.slot < 2)
     (geometry : IsGeometry d.geometry)
-    (lies : lies_in size d.geometry (layout_of t).device ≡ true)
+    (lies : lies_in d.tail.super_end d.geometry (layout_of t).device ≡ true)
     (is : layout_of u ≡ plain d.mark.slot (layout_of t))
     (fits : n ≤ copy_sectors d.geometry)
     (others : SameElsewhere d.geometry d.mark.slot n old image) where
@@ -74,14 +76,14 @@ module _
       → BothHold d.geometry d.mark.slot text image
       → Represents (with_table u d) size image
   represents_alone text of_text held = record {
-    read = read_at d.mark d.control d.geometry u;
+    read = read_at d.mark d.control d.tail d.geometry u;
     reads =
         reads_alike d size n old image t u st below geometry lies
         (place_is d.mark.slot t u is) fits others
         (both_table d.geometry d.mark.slot text u image held of_text);
     is =
         ap (with_table u) st.is
-        ∙ kept_alone d.mark d.mark.slot d.control d.control d.geometry t u below is;
+        ∙ kept_alone d.mark d.mark.slot d.control d.control d.tail d.geometry t u below is;
     control =
         control_alike d size n old image t u st below geometry lies
         (place_is d.mark.slot t u is) fits others;
@@ -98,7 +100,7 @@ pub leaves_alone : (d : Device) (size n : ℕ) (old : Image) (t u : Table) (told
     → StandsIdle d size old t
     → d.mark.slot < 2
     → IsGeometry d.geometry
-    → lies_in size d.geometry (layout_of t).device ≡ true
+    → lies_in d.tail.super_end d.geometry (layout_of t).device ≡ true
     → layout_of u ≡ plain d.mark.slot (layout_of t)
     → n ≤ copy_sectors d.geometry
     → LeavesEitherTable told d.geometry d.mark.slot n old t u o
@@ -108,8 +110,8 @@ leaves_alone d size n old t u told o st below geometry lies is fits leaves = rec
   same =
       ⊎_elim
       (λ was.
-      device_same size (read_at d.mark d.control d.geometry t) old o.image st.reads
-      (repair_same size n d.mark.slot (read_at d.mark d.control d.geometry t) old o.image
+      device_same size (read_at d.mark d.control d.tail d.geometry t) old o.image st.reads
+      (repair_same size n d.mark.slot (read_at d.mark d.control d.tail d.geometry t) old o.image
       geometry below below fits st.reads leaves.others
       (was
       ∙ sym (both_table d.geometry d.mark.slot st.copies.0.0 t old st.copies.0.2 st.copies.0.1))))

@@ -110,7 +110,7 @@ module _ {D : Type 0} (g : Ghosts D) (d : Device) (staged : Option (List ℕ)) w
     stands : IsTableText d.geometry.max text u
     stands = p.spelled.stands d.geometry.max p.emptied.size
 
-    lies : lies_in (g.size old) d.geometry (layout_of u).device ≡ true
+    lies : lies_in d.tail.super_end d.geometry (layout_of u).device ≡ true
     lies = new_lies d (g.size old) staged own.0 u p.image kept own.1 p.taken p.emptied
 
     stays : (layout_of u).device ≡ (layout_of own.0).device
@@ -179,10 +179,10 @@ module _ {D : Type 0} (g : Ghosts D) (d : Device) (staged : Option (List ℕ)) w
           mounted = mounted_on d (g.seen old);
           step = inl refl;
           means =
-              device_same (g.size old) (read_at d.mark d.control d.geometry own.0)
+              device_same (g.size old) (read_at d.mark d.control d.tail d.geometry own.0)
               (g.seen old) o.image (st t).reads
               (repair_same (g.size old) n d.mark.slot
-              (read_at d.mark d.control d.geometry own.0) (g.seen old) o.image kept.geometry
+              (read_at d.mark d.control d.tail d.geometry own.0) (g.seen old) o.image kept.geometry
               kept.slot kept.slot fits (st t).reads left.others (same ∙ sym (old_table t)))
               ∙ device_stands d (g.size old) (g.seen old) (is t);
         })

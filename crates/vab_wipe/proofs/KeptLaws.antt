@@ -1,17 +1,14 @@
 -- What is kept of a device behind a wipe of its slot.
-use Rattle.std.proofs.Common.{◌≡◌, ◌⊎◌, ◌∙◌, inl, inr, ℕ, zero, suc, ◌<◌, true, false}
-use Rattle.std.proofs.Common.{List, [], ◌∷◌, refl, sym, ap, subst, arith}
+use Rattle.std.proofs.Common.{◌≡◌, ◌∙◌, inl, inr, ℕ, true, false}
+use Rattle.std.proofs.Common.{List, [], ◌∷◌, refl, sym, ap, arith}
 use Rattle.std.specs.Prelude.{◌==◌, if◌then◌else◌, Bool, not, Option, Some, None, is_some}
 use Rattle.std.proofs.Math.Bool.{and-true}
 use Rattle.std.proofs.lemmas.Bool.{cases_Bool}
-use Rattle.vab_marks.specs.declared.mark.MarkPhase.{MarkPhase}
 use Rattle.vab_tables.specs.declared.entries.BlockDevice.{BlockDevice}
 use Rattle.vab_tables.specs.declared.table.Table.{Table}
 use Rattle.vab_tables.specs.Rules.{KeepsRules}
 use Rattle.vab_layout.specs.declared.layout.Layout.{Layout}
 use Rattle.vab_layout.specs.Layout.{layout_of, first_device}
-use Rattle.vab_layout.specs.Slots.{other_slot}
-use Rattle.vab_layout.proofs.LayoutLaws.{layout_keeps}
 use Rattle.vab_partitions.specs.Twins.{is_device, are_devices}
 use Rattle.vab_partitions.proofs.TwinLaws.{devices_are}
 use Rattle.vab_super_image.specs.declared.image.SuperImage.{SuperImage}
@@ -20,14 +17,11 @@ use Rattle.vab_builder.proofs.TableLaws.{plain_device}
 use Rattle.vab_model.specs.declared.command.Refusal.{Refusal}
 use Rattle.vab_model.specs.declared.command.Refusal.TheVariants as refusals
 use Rattle.vab_model.specs.Wipe.{filled_refusal}
-use Rattle.vab_device.specs.declared.device.Part.{Part}
 use Rattle.vab_device.specs.declared.device.Device.{Device}
-use Rattle.vab_device.specs.Kept.{IsDevice, IsTableOf, IsUpdate, AreParts, table_of_slot, lies_in}
-use Rattle.vab_device.specs.Kept.{parts_of, limits_of, has_slot, reads_both, IsOverlay}
+use Rattle.vab_device.specs.Kept.{IsDevice, IsTableOf, table_of_slot, lies_in}
+use Rattle.vab_device.specs.Kept.{limits_of}
 use Rattle.vab_device.specs.Mounted.{table_placed, places_on}
 use Rattle.vab_device.specs.Updates.{layout_at, is_geometry, has_device}
-use Rattle.vab_device.proofs.OverlayLaws.{plain_none}
-use Rattle.vab_device.proofs.OwnParts.{parts_kept}
 use Rattle.vab_device.proofs.PhaseCases.{cases_slot}
 use Rattle.vab_device.proofs.SlotTable.{kept_table, retabled_a, retabled_b}
 use Rattle.vab_wipe.specs.Kept.{with_wiped}
@@ -130,11 +124,11 @@ module _
       ap (λ (l : Layout). l.device) emptied.layout
       ∙ device_same d size t i kept taken.rules own taken.free
 
-  pub new_lies : lies_in size d.geometry (layout_of u).device ≡ true
+  pub new_lies : lies_in d.tail.super_end d.geometry (layout_of u).device ≡ true
   new_lies =
-      ap (lies_in size d.geometry) device_stays ∙ (kept_table d size t kept own).lies
+      ap (lies_in d.tail.super_end d.geometry) device_stays ∙ (kept_table d size t kept own).lies
 
-  new_table : IsTableOf size d.geometry d.mark.slot u
+  new_table : IsTableOf d.tail.super_end d.geometry d.mark.slot u
   new_table = record {
     rules = emptied.rules;
     small = omega (arith, emptied.size, kept.geometry.most);

@@ -27,6 +27,7 @@ use Rattle.vab_layout.specs.Slots.{own_parts, IsOwn}
 use Rattle.vab_partitions.proofs.OwnRules.{none_bad}
 use Rattle.vab_super_image.specs.declared.image.SuperImage.{SuperImage}
 use Rattle.vab_super_image.specs.SuperImage.{emptied_part, wiped_layout}
+use Rattle.vab_physical.specs.declared.tail.Tail.{Tail}
 use Rattle.vab_model.specs.Groups.{group_of}
 use Rattle.vab_model.specs.Wipe.{empty_image, empty_images}
 use Rattle.vab_model.proofs.SeenLaws.{seen_again}
@@ -41,7 +42,7 @@ use Rattle.vab_device.specs.Updates.{wiped}
 use Rattle.vab_device.proofs.IdleLaws.{reads_idle}
 use Rattle.vab_device.proofs.OpeningLaws.{control_seen_in}
 use Rattle.vab_device.proofs.ReadingLaws.{device_of, single_works}
-use Rattle.vab_device.proofs.SameLaws.{mark_same, geometry_same, version_same}
+use Rattle.vab_device.proofs.SameLaws.{mark_same, tail_kept, geometry_same, version_same}
 use Rattle.vab_device.proofs.UpdateLaws.{kept_with}
 use Rattle.vab_device.proofs.PlaceLaws.{table_is}
 use Rattle.vab_device.proofs.StandsLaws.{StandsIdle, read_at}
@@ -83,59 +84,60 @@ images_empty image slot t u is =
 
 -- ---- what is kept
 
-kept_wiped : (m : UpdateMark) (slot : ℕ) (seen c : Control) (g : Geometry) (t u : Table)
+kept_wiped : (m : UpdateMark) (slot : ℕ) (seen c : Control) (tail : Tail) (g : Geometry)
+    (t u : Table)
     → slot < 2
     → (layout_of u).device ≡ (layout_of t).device
-    → with_wiped (kept_with (read_at (resloted slot m) seen g t) c) u
-    ≡ kept_with (read_at (resloted slot m) seen g u) c
-kept_wiped m zero seen c g t u below same =
-    (λ k. record (kept_with (read_at (resloted 0 m) seen g u) c) {
+    → with_wiped (kept_with (read_at (resloted slot m) seen tail g t) c) u
+    ≡ kept_with (read_at (resloted slot m) seen tail g u) c
+kept_wiped m zero seen c tail g t u below same =
+    (λ k. record (kept_with (read_at (resloted 0 m) seen tail g u) c) {
       cap = cap_of (sym same k);
     })
-kept_wiped m (suc zero) seen c g t u below same =
-    (λ k. record (kept_with (read_at (resloted 1 m) seen g u) c) {
+kept_wiped m (suc zero) seen c tail g t u below same =
+    (λ k. record (kept_with (read_at (resloted 1 m) seen tail g u) c) {
       cap = cap_of (sym same k);
     })
-kept_wiped m (suc (suc n)) seen c g t u below same = absurd (omega (arith, below))
+kept_wiped m (suc (suc n)) seen c tail g t u below same = absurd (omega (arith, below))
 
 -- ---- what it means
 
-mounted_wiped : (m : UpdateMark) (slot : ℕ) (c : Control) (g : Geometry) (t u : Table)
-    (i : SuperImage) (old image : Image)
+mounted_wiped : (m : UpdateMark) (slot : ℕ) (c : Control) (tail : Tail) (g : Geometry)
+    (t u : Table) (i : SuperImage) (old image : Image)
     → slot < 2
     → layout_of u ≡ wiped_layout (layout_of i.table)
     → u.groups ≡ i.table.groups
     → (layout_of u).device ≡ (layout_of t).device
-    → mounted_on (kept (read_at (resloted slot m) c g u)) image
-    ≡ wiped (mounted_on (kept_with (read_at (resloted slot m) c g t) c) old) slot i
+    → mounted_on (kept (read_at (resloted slot m) c tail g u)) image
+    ≡ wiped (mounted_on (kept_with (read_at (resloted slot m) c tail g t) c) old) slot i
 unfolding state_on
-mounted_wiped m zero c g t u i old image below is groups same =
+mounted_wiped m zero c tail g t u i old image below is groups same =
     let images = images_empty image 0 i.table u is in
     (λ k. record {
-      state = record (state_on (kept (read_at (resloted 0 m) c g u)) image) {
+      state = record (state_on (kept (read_at (resloted 0 m) c tail g u)) image) {
         cap = cap_of (same k);
         groups = limits_of 0 (groups k);
         control = seen_again true false c k;
         a = Some (images k);
       };
-      places = record (mounted_on (kept (read_at (resloted 0 m) c g u)) image).places {
+      places = record (mounted_on (kept (read_at (resloted 0 m) c tail g u)) image).places {
         a = Some (plain 0 (is k));
       };
     })
-mounted_wiped m (suc zero) c g t u i old image below is groups same =
+mounted_wiped m (suc zero) c tail g t u i old image below is groups same =
     let images = images_empty image 1 i.table u is in
     (λ k. record {
-      state = record (state_on (kept (read_at (resloted 1 m) c g u)) image) {
+      state = record (state_on (kept (read_at (resloted 1 m) c tail g u)) image) {
         cap = cap_of (same k);
         groups = limits_of 1 (groups k);
         control = seen_again false true c k;
         b = Some (images k);
       };
-      places = record (mounted_on (kept (read_at (resloted 1 m) c g u)) image).places {
+      places = record (mounted_on (kept (read_at (resloted 1 m) c tail g u)) image).places {
         b = Some (plain 1 (is k));
       };
     })
-mounted_wiped m (suc (suc n)) c g t u i old image below is groups same =
+mounted_wiped m (suc (suc n)) c tail g t u i old image below is groups same =
     absurd (omega (arith, below))
 
 -- ---- the disk
@@ -144,7 +146,7 @@ module _
     (d : Device) (size n : ℕ) (old image : Image) (t u : Table) (i : SuperImage)
     (st : StandsIdle d size old t)
     (below : d.mark.slot < 2)
-    (lies : lies_in size d.geometry (layout_of u).device ≡ true)
+    (lies : lies_in d.tail.super_end d.geometry (layout_of u).device ≡ true)
     (own : IsOwn d.mark.slot (layout_of u).parts)
     (is : layout_of u ≡ wiped_layout (layout_of i.table))
     (groups : u.groups ≡ i.table.groups)
@@ -173,26 +175,30 @@ module _
       ∙ ap names_none (none_bad most_partitions d.mark.slot (layout_of u).parts own own.few)
 
   module _ (there : slot_table d.geometry d.mark.slot image ≡ Ok u) where
-    table : table_at size d.geometry d.mark.slot image ≡ Ok u
-    table = table_is size d.geometry d.mark.slot image u there lies
+    table : table_at d.tail.super_end d.geometry d.mark.slot image ≡ Ok u
+    table = table_is d.tail.super_end d.geometry d.mark.slot image u there lies
 
-    pub reads_wiped : Reads size (read_at d.mark d.control d.geometry u) image
+    pub reads_wiped : Reads size (read_at d.mark d.control d.tail d.geometry u) image
     reads_wiped =
         reads_idle size image (rephased marks.Idle d.mark) st.reads.enough
         (mark_same old image (before 2048 (omega arith)) ∙ st.reads.mark)
-        refl d.control d.geometry u refl
+        refl d.control d.tail d.geometry u refl
         (control_seen_in _ _ image d.control control)
-        (geometry_same size old image (before 4104 (omega arith)) (before 4112 (omega arith))
+        (tail_kept d.mark.physical size old image (λ some. before 2113 (omega arith))
+        ∙ st.reads.tail)
+        (geometry_same d.tail.super_end old image (before 4104 (omega arith))
+        (before 4112 (omega arith))
         ∙ st.reads.geometry)
         table rules
-        (single_works (read_at d.mark d.control d.geometry t) refl st.reads.state)
+        (single_works (read_at d.mark d.control d.tail d.geometry t) refl st.reads.state)
 
     -- it means the device without images
     pub means_wiped : device size image ≡ Ok (wiped (mounted_on d old) d.mark.slot i)
     means_wiped =
-        device_of size (read_at d.mark d.control d.geometry u) image reads_wiped
+        device_of size (read_at d.mark d.control d.tail d.geometry u) image reads_wiped
         ∙ ap Ok
-        (mounted_wiped d.mark d.mark.slot d.control d.geometry t u i old image below is groups same)
+        (mounted_wiped d.mark d.mark.slot d.control d.tail d.geometry t u i old image below is
+        groups same)
         ∙ ap (λ (x : Device). Ok (wiped (mounted_on x old) d.mark.slot i)) (sym st.is)
 
   -- where both copies hold the text, the kept device is that of the disk
@@ -201,12 +207,12 @@ module _
       → BothHold d.geometry d.mark.slot text image
       → Represents (with_wiped d u) size image
   represents_wiped text of_text held = record {
-    read = read_at d.mark d.control d.geometry u;
+    read = read_at d.mark d.control d.tail d.geometry u;
     reads = reads_wiped (both_table d.geometry d.mark.slot text u image held of_text);
     is =
         ap (λ (x : Device). with_wiped x u) st.is
-        ∙ kept_wiped d.mark d.mark.slot d.control d.control d.geometry t u below same
-        ∙ ap (kept_with (read_at d.mark d.control d.geometry u)) (sym (control_stays d u));
+        ∙ kept_wiped d.mark d.mark.slot d.control d.control d.tail d.geometry t u below same
+        ∙ ap (kept_with (read_at d.mark d.control d.tail d.geometry u)) (sym (control_stays d u));
     control = control ∙ ap Ok (sym (control_stays d u));
     copies = ((text, of_text, held), tt);
     version = version ∙ st.version;

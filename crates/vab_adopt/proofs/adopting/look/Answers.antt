@@ -31,7 +31,7 @@ returns-in_err-device-clause-refused g c = λ t.
 
 pub count-requires-clause-present : goal.count-requires-clause-present
 count-requires-clause-present g c = (
-  g.D.Disk.size c.update_there.new.d,
+  c.in_ok-device.device.tail.super_end,
   present_at c.in_ok-device.device c.in_ok-device.field-0-1 (g.D.Disk.size c.update_there.new.d)
       c.args.slot c.in_ok-device.ensures.kept,
 )
@@ -60,10 +60,12 @@ returns-clause-found g c = λ t.
       is = means;
       none = adopted_unrefused size slot old none.0 _ none.1 means;
       counted =
-          counted (with_heads slot old) size
-          (heads_whole size slot old four
+          counted (with_heads slot old) d.tail.super_end
+          (λ s inside.
+          heads_whole size slot old four
           (λ k below. g.met.D.Disk.whole c.args.d.now k (old k) below
-          (g.met.D.Disk.seen_held c.args.d.now k)))
+          (g.met.D.Disk.seen_held c.args.d.now k))
+          s (omega (arith, inside, kept.ends)))
           d tables slot c.count.result (present_at d tables size slot kept)
           c.count.ensures.counts;
       dropped =

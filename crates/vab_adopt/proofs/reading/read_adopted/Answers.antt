@@ -17,7 +17,8 @@ returns-in-Ok-clause-opened g c = λ t.
     let size = c.heads.ensures.reads.quiet.size in
     let seen = c.heads.ensures.reads.seen t in
     let sector : IsSector (old 4) =
-    g.met.D.Disk.whole c.args.d.now 4 (old 4) (omega (arith, c.in-Ok.ensures.are.enough))
+    g.met.D.Disk.whole c.args.d.now 4 (old 4)
+    (omega (arith, c.in-Ok.ensures.are.enough, c.in-Ok.ensures.are.ends))
     (g.met.D.Disk.seen_held c.args.d.now 4) in
     let super = old_super slot old (with_heads slot old)
     (has_heads slot old c.requires.slot sector) in
@@ -27,7 +28,8 @@ returns-in-Ok-clause-opened g c = λ t.
     (subst (λ (i : Image). SameSuper i (with_heads slot old)) (sym seen) super)
     (subst
     (λ (n : ℕ).
-    IsHeaded n (with_heads slot old) h.mark h.version h.statuses.items h.control h.geometry)
+    IsHeaded n (with_heads slot old) h.mark h.version h.statuses.items h.control h.tail
+    h.geometry)
     (sym size) (c.in-Ok.ensures.headed t)))
 
 pub returns-in-Ok-clause-fault : goal.returns-in-Ok-clause-fault
@@ -39,7 +41,8 @@ returns-in-Ok-clause-fault g c = λ t.
     let size = c.heads.ensures.reads.quiet.size in
     let seen = c.heads.ensures.reads.seen t in
     let sector : IsSector (old 4) =
-    g.met.D.Disk.whole c.args.d.now 4 (old 4) (omega (arith, c.in-Ok.ensures.are.enough))
+    g.met.D.Disk.whole c.args.d.now 4 (old 4)
+    (omega (arith, c.in-Ok.ensures.are.enough, c.in-Ok.ensures.are.ends))
     (g.met.D.Disk.seen_held c.args.d.now 4) in
     let super = old_super slot old (with_heads slot old)
     (has_heads slot old c.requires.slot sector) in
@@ -51,5 +54,6 @@ returns-in-Ok-clause-fault g c = λ t.
     (subst (λ (i : Image). SameSuper i (with_heads slot old)) (sym seen) super)
     (subst
     (λ (n : ℕ).
-    IsHeaded n (with_heads slot old) h.mark h.version h.statuses.items h.control h.geometry)
+    IsHeaded n (with_heads slot old) h.mark h.version h.statuses.items h.control h.tail
+    h.geometry)
     (sym size) (c.in-Ok.ensures.headed t)))

@@ -22,8 +22,9 @@ use Rattle.vab_begin.proofs.beginning.begin_to.Goals as goal
 
 pub prepare_begin-requires-clause-table_on_disk : goal.prepare_begin-requires-clause-table_on_disk
 prepare_begin-requires-clause-table_on_disk g c =
-    copies_on_disk c.args.device.geometry (other_slot c.args.device.mark.slot) _
-    c.requires.kept.geometry (omega arith) c.requires.kept.enough c.requires.kept.copies_on
+    let on = copies_on_disk c.args.device.geometry (other_slot c.args.device.mark.slot) _
+    c.requires.kept.geometry (omega arith) c.requires.kept.enough c.requires.kept.copies_on in
+    omega (arith, on, c.requires.kept.ends)
 
 pub returns-in-Err-clause-does : goal.returns-in-Err-clause-does
 returns-in-Err-clause-does g c = λ staged.

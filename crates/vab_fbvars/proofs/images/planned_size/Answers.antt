@@ -22,7 +22,7 @@ pub overflow_mul-result : goal.overflow_mul-result
 overflow_mul-result c =
     let d = c.args.device.now in
     let found = sym c.planned.ensures ∙ ap option_copied c.in-Some.is in
-    let small = kept_small c.requires.0 c.base_of.result.now d.plan c.in-Some.part.now
+    let small = kept_small d.tail.super_end c.base_of.result.now d.plan c.in-Some.part.now
     c.requires.1.plan found in
     omega (arith, small, c.len.ensures.count)
 

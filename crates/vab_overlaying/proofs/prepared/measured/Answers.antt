@@ -25,7 +25,7 @@ blocks_in-held-requires c =
     ∙ ap (λ (l : List Part). Some l) (sym c.as_slice-parts.ensures) in
     omega (
       arith,
-      parts_small c.requires.kept.0 c.as_slice-parts.result.now
+      parts_small d.tail.super_end c.as_slice-parts.result.now
           (parts_present d c.requires.kept.0 c.as_slice-parts.result.now c.requires.kept.1 parts),
     )
 
@@ -37,7 +37,7 @@ overflow_add-used c =
     ∙ ap (λ (l : List Part). Some l) (sym c.as_slice-parts.ensures) in
     omega (
       arith,
-      parts_small c.requires.kept.0 c.as_slice-parts.result.now
+      parts_small d.tail.super_end c.as_slice-parts.result.now
           (parts_present d c.requires.kept.0 c.as_slice-parts.result.now c.requires.kept.1 parts),
       store_small c.len.result c.args.size c.len.ensures.small c.ranges.size.fits,
       c.blocks_in-held.ensures,

@@ -57,6 +57,6 @@ returns-then-block-blocks-clause-refused c = λ size image dev whole.
     (refusals.BadBlock c.args.block c.len-blocks.result)
     (ap (option_map (λ (s : Bor (List ℕ)). s.now)) c.in-Some-staged.is)
     (bad_block d image c.args.block p c.in-Some.is bytes long
-    (over_long size on.0 p on.2 image whole)
+    (over_long d.tail.super_end on.0 p on.2 size dev.ends image whole)
     (omega (arith, c.if-block-blocks.true, count))
     ∙ ap (λ (n : ℕ). refuses (refusals.BadBlock c.args.block n)) (sym count))

@@ -41,7 +41,7 @@ put_over-requires-clause-may g c =
     let size = g.D.Disk.size c.args.d.now in
     let staged = c.requires.staged in
     let on = overlaid_on d size p c.requires.kept c.in-Some.is in
-    may_over size on.0 p on.2 c.args.block
+    may_over d.tail.super_end on.0 p on.2 size c.requires.kept.ends c.args.block
     (inside_of d staged.part p c.args.block staged.is c.in-Some.is staged.inside)
 
 pub put_over-requires-clause-apart : goal.put_over-requires-clause-apart

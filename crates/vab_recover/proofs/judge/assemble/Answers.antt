@@ -58,6 +58,7 @@ returns-clause-is c =
     record {
       mark = refl;
       control = refl;
+      ends = refl;
       geometry = refl;
       cap = c.cap-cap.ensures
           ∙ ap cap_of

@@ -22,7 +22,8 @@ returns-in-Ok-clause-opened g c = λ t.
     subst (λ (n : ℕ). IfOk c.open_behind.result (λ r. IsOpened r.0 r.1 n old)) size
     (c.open_behind.ensures.opened t old (λ s le. ap (λ (i : Image). i s) (sym seen))
     (subst
-    (λ (n : ℕ). IsHeaded n old h.mark h.version h.statuses.items h.control h.geometry)
+    (λ (n : ℕ). IsHeaded n old h.mark h.version h.statuses.items h.control h.tail
+    h.geometry)
     (sym size)
     (c.in-Ok.ensures.headed t)))
 
@@ -36,7 +37,8 @@ returns-in-Ok-clause-fault g c = λ t.
     (λ (n : ℕ). IfErr c.open_behind.result (λ f. IsOfContents f → device n old ≡ Err f)) size
     (c.open_behind.ensures.fault t old (λ s le. ap (λ (i : Image). i s) (sym seen))
     (subst
-    (λ (n : ℕ). IsHeaded n old h.mark h.version h.statuses.items h.control h.geometry)
+    (λ (n : ℕ). IsHeaded n old h.mark h.version h.statuses.items h.control h.tail
+    h.geometry)
     (sym size)
     (c.in-Ok.ensures.headed t)))
 
@@ -48,6 +50,7 @@ returns-in-Ok-clause-memory g c = λ t.
       version = h.version;
       statuses = h.statuses.items;
       control = h.control;
+      tail = h.tail;
       geometry = h.geometry;
       headed = c.in-Ok.ensures.headed t;
     })

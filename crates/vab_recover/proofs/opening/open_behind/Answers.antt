@@ -15,8 +15,8 @@ pub returns-in-Err-clause-fault : goal.returns-in-Err-clause-fault
 returns-in-Err-clause-fault g c = λ t image same headed kind.
     let h = c.args.heads in
     no_tables (g.D.Disk.size c.args.d.now) image h.mark h.version h.statuses.items h.control
-    h.geometry _ headed
-    (tables_as (g.D.Disk.size c.args.d.now) h.geometry
+    h.tail h.geometry _ headed
+    (tables_as h.tail.super_end h.geometry
     (phase_at h.mark).tables (g.D.Disk.seen c.args.d.now) image same
     ∙ c.in-Err.ensures.fault t kind)
 

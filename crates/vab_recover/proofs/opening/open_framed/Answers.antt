@@ -27,20 +27,22 @@ by_version n f x same is =
 pub read_stores-requires-clause-target : goal.read_stores-requires-clause-target
 read_stores-requires-clause-target g c =
     let f = c.args.frame in
-    through_are (g.D.Disk.size c.args.d.now) f.heads.geometry f.heads.mark f.tables
+    through_are (g.D.Disk.size c.args.d.now) f.heads.tail f.heads.geometry f.heads.mark f.tables
     c.requires.there c.in-Ok.ensures.update c.in-Ok.ensures.merging
 
 pub read_stores-requires-clause-on_disk : goal.read_stores-requires-clause-on_disk
 read_stores-requires-clause-on_disk g c =
     let f = c.args.frame in
-    through_on_disk (g.D.Disk.size c.args.d.now) f.heads.geometry f.heads.mark f.tables
-    c.requires.there c.in-Ok.ensures.update c.in-Ok.ensures.merging c.requires.are.enough
+    through_on_disk (g.D.Disk.size c.args.d.now) f.heads.tail f.heads.geometry f.heads.mark f.tables
+    c.requires.there c.in-Ok.ensures.update c.in-Ok.ensures.merging
+    c.requires.are.enough c.requires.are.ends
 
 pub read_stores-requires-clause-source_on_disk : goal.read_stores-requires-clause-source_on_disk
 read_stores-requires-clause-source_on_disk g c =
     let f = c.args.frame in
-    source_on_disk (g.D.Disk.size c.args.d.now) f.heads.geometry f.heads.mark f.tables
-    c.requires.there c.in-Ok.ensures.update c.in-Ok.ensures.merging c.requires.are.enough
+    source_on_disk (g.D.Disk.size c.args.d.now) f.heads.tail f.heads.geometry f.heads.mark f.tables
+    c.requires.there c.in-Ok.ensures.update c.in-Ok.ensures.merging
+    c.requires.are.enough c.requires.are.ends
 
 pub returns-in-Err-clause-fault : goal.returns-in-Err-clause-fault
 returns-in-Err-clause-fault g c = λ t image same framed kind.
@@ -75,16 +77,16 @@ returns-in-Ok-assemble-clause-opened g c = λ t image same framed.
     let plan = c.in-Ok-read_stores.ensures.stored in
     let is = c.in-Ok-assemble.ensures.is in
     opened_of c.in-Ok-assemble.device f.tables (g.D.Disk.size c.args.d.now)
-    image h.mark h.statuses.items h.control h.geometry plan.scanned is.mark
-    is.control is.geometry
+    image h.mark h.statuses.items h.control h.tail h.geometry plan.scanned is.mark
+    is.control is.ends is.geometry
     (frame_read (g.D.Disk.size c.args.d.now) image f framed
     c.requires.are.phase c.requires.are.slot c.requires.there.both plan.scanned
     (by_version _ c.args.frame None c.partitions.ensures.is c.in-Ok.ensures.kept)
     (framed_stores f (g.D.Disk.seen c.args.d.now) image _ same (plan.read t))
     (slots_are f c.in-Ok-read_stores.stored.through plan.scanned _ plan.through_is
     c.in-Ok-judge_slots.ensures.ok))
-    (kept_is c.in-Ok-assemble.device f.tables h.mark h.statuses.items h.control h.geometry
-    c.in-Ok-read_stores.stored plan.scanned c.requires.are.phase c.requires.are.slot
+    (kept_is c.in-Ok-assemble.device f.tables h.mark h.statuses.items h.control h.tail
+    h.geometry c.in-Ok-read_stores.stored plan.scanned c.requires.are.phase c.requires.are.slot
     c.requires.there.both is plan.through_is plan.overlay_is)
     framed.heads.control framed.loaded
 
@@ -93,7 +95,7 @@ returns-in-Ok-assemble-clause-kept g c =
     let f = c.args.frame in
     let h = f.heads in
     let plan = c.in-Ok-read_stores.ensures.stored in
-    assembled_kept (g.D.Disk.size c.args.d.now) h.geometry h.mark f.tables c.requires.there
+    assembled_kept (g.D.Disk.size c.args.d.now) h.tail h.geometry h.mark f.tables c.requires.there
     c.in-Ok.ensures.update c.in-Ok.ensures.merging c.in-Ok-assemble.device h.statuses.items
     h.control c.in-Ok-read_stores.stored plan.scanned c.requires.are
     c.in-Ok-judge_slots.ensures.current c.in-Ok.ensures.own c.in-Ok.ensures.overlay

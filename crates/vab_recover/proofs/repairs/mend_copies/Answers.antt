@@ -28,7 +28,12 @@ on_both P Q R (Err e) f p q = tt
 
 pub migrate-requires-clause-enough : goal.migrate-requires-clause-enough
 migrate-requires-clause-enough g c =
-    omega (arith, c.requires.is.enough, c.repair_tables.ensures.quiet.size)
+    omega (
+      arith,
+      c.requires.is.enough,
+      c.requires.is.ends,
+      c.repair_tables.ensures.quiet.size,
+    )
 
 pub migrate-requires-clause-mark : goal.migrate-requires-clause-mark
 migrate-requires-clause-mark g c = λ t.

@@ -18,8 +18,12 @@ use Rattle.vab_recover.proofs.repairs.repair_tables.Goals as goal
 pub repair_table-requires-clause-on_disk : goal.repair_table-requires-clause-on_disk
 repair_table-requires-clause-on_disk g c =
     let is = c.requires.is in
-    copies_on_disk c.args.kept.now.geometry c.args.kept.now.mark.slot (g.D.Disk.size c.args.d.now)
-    is.geometry is.slot is.copies_on
+    omega (
+      arith,
+      copies_on_disk c.args.kept.now.geometry c.args.kept.now.mark.slot
+          c.args.kept.now.tail.super_end is.geometry is.slot is.copies_on,
+      is.ends,
+    )
 
 pub repair_table-requires-in-Some-clause-on_disk : goal.repair_table-requires-in-Some-clause-on_disk
 repair_table-requires-in-Some-clause-on_disk g c =
@@ -28,8 +32,12 @@ repair_table-requires-in-Some-clause-on_disk g c =
     subst
     (λ (n : ℕ). backup_of d.geometry (other_slot d.mark.slot) + copy_sectors d.geometry ≤ n)
     (sym c.repair_table.ensures.touches.quiet.size)
-    (copies_on_disk d.geometry (other_slot d.mark.slot) (g.D.Disk.size c.args.d.now) is.geometry
-    (omega arith) is.copies_on)
+    (omega (
+      arith,
+      copies_on_disk d.geometry (other_slot d.mark.slot) d.tail.super_end is.geometry (omega arith)
+          is.copies_on,
+      is.ends,
+    ))
 
 pub repair_table-requires-in-Some-clause-loaded : goal.repair_table-requires-in-Some-clause-loaded
 repair_table-requires-in-Some-clause-loaded g c = λ t.

@@ -7,24 +7,20 @@ use Rattle.vab_recover.proofs.table.read_table.Goals as goal
 
 pub returns-then-not-lies_in-clause-fault : goal.returns-then-not-lies_in-clause-fault
 returns-then-not-lies_in-clause-fault g c = λ told kind.
-    let size : ℕ = g.D.Disk.size c.args.d.now in
+    let super_end : ℕ = c.args.super_end in
     let t = c.in_ok-loaded.loaded.table in
-    let lies : lies_in size c.args.geometry.now (layout_of t).device ≡ false =
-    ap (λ (n : ℕ). lies_in n c.args.geometry.now (layout_of t).device)
-    (sym c.sectors-sectors.ensures)
-    ∙ sym c.lies_in.ensures
+    let lies : lies_in super_end c.args.geometry.now (layout_of t).device ≡ false =
+    sym c.lies_in.ensures
     ∙ c.if-not-lies_in.true in
-    table_lies_not size c.args.geometry.now c.args.slot (g.D.Disk.seen c.args.d.now) t
+    table_lies_not super_end c.args.geometry.now c.args.slot (g.D.Disk.seen c.args.d.now) t
     (c.in_ok-loaded.ensures.table told) lies
 
 pub returns-clause-ok : goal.returns-clause-ok
 returns-clause-ok g c = λ told.
-    let size : ℕ = g.D.Disk.size c.args.d.now in
+    let super_end : ℕ = c.args.super_end in
     let t = c.in_ok-loaded.loaded.table in
-    let lies : lies_in size c.args.geometry.now (layout_of t).device ≡ true =
-    ap (λ (n : ℕ). lies_in n c.args.geometry.now (layout_of t).device)
-    (sym c.sectors-sectors.ensures)
-    ∙ sym c.lies_in.ensures
+    let lies : lies_in super_end c.args.geometry.now (layout_of t).device ≡ true =
+    sym c.lies_in.ensures
     ∙ c.if-not-lies_in.false in
-    table_is size c.args.geometry.now c.args.slot (g.D.Disk.seen c.args.d.now) t
+    table_is super_end c.args.geometry.now c.args.slot (g.D.Disk.seen c.args.d.now) t
     (c.in_ok-loaded.ensures.table told) lies

@@ -1,4 +1,5 @@
 use Rattle.std.proofs.Common.{inl, ◌≡◌, ℕ, ◌≤◌, true, List, length, Ok, refl, sym, subst}
+use Rattle.std.proofs.Common.{arith}
 use Rattle.vab_disk.specs.declared.disk.Disk.{Ghosts}
 use Rattle.vab_disk.specs.Disk.{Adds}
 use Rattle.vab_disk.specs.Calls.{IsAtRest, Touches}
@@ -53,7 +54,7 @@ module _ {D : Type 0} (g : Ghosts D) (d : Device) (x : Alone) (text : List ℕ) 
   st t = stands_idle d (g.size old) (g.seen old) a.table dev.slot a.idle a.plain a.is
       (is t)
 
-  lies : lies_in (g.size old) d.geometry (layout_of a.table).device ≡ true
+  lies : lies_in d.tail.super_end d.geometry (layout_of a.table).device ≡ true
   lies = (kept_table d (g.size old) a.table dev a.is).lies
 
   fits : n ≤ copy_sectors d.geometry
@@ -118,14 +119,15 @@ module _ {D : Type 0} (g : Ghosts D) (d : Device) (x : Alone) (text : List ℕ) 
   kept : IsDevice (with_table x.table d) (g.size old)
   kept =
       table_kept d (g.size old) x.table dev a.idle
-      (alone_of (g.size old) d.mark.slot d.geometry a.table x dev.geometry
+      (alone_of d.tail.super_end d.mark.slot d.geometry a.table x dev.geometry
       (kept_table d (g.size old) a.table dev a.is) a.alone)
 
 pub store_table-requires-clause-on_disk : goal.store_table-requires-clause-on_disk
 store_table-requires-clause-on_disk g c =
     let dev = c.requires.kept in
-    copies_on_disk c.args.device.geometry c.args.device.mark.slot (g.D.Disk.size c.args.d.now)
-    dev.geometry dev.slot dev.copies_on
+    let on = copies_on_disk c.args.device.geometry c.args.device.mark.slot
+    c.args.device.tail.super_end dev.geometry dev.slot dev.copies_on in
+    omega (arith, on, dev.ends)
 
 -- the text that is written
 text_is : (d : Device) (x : Alone) (text : List ℕ)

@@ -1,4 +1,4 @@
-use Rattle.std.proofs.Common.{ℕ, List, Ok, sym, subst}
+use Rattle.std.proofs.Common.{ℕ, List, Ok, sym, subst, arith}
 use Rattle.std.specs.Prelude.{option_map}
 use Rattle.vab_disk.specs.Calls.{Touches}
 use Rattle.vab_lpstore.specs.Layout.{BothHold}
@@ -15,8 +15,9 @@ use Rattle.vab_wipe.proofs.wiping.update_super.Goals as goal
 pub store_table-requires-clause-on_disk : goal.store_table-requires-clause-on_disk
 store_table-requires-clause-on_disk g c =
     let dev = c.requires.kept in
-    copies_on_disk c.args.device.geometry c.args.device.mark.slot (g.D.Disk.size c.args.d.now)
-    dev.geometry dev.slot dev.copies_on
+    let on = copies_on_disk c.args.device.geometry c.args.device.mark.slot
+    c.args.device.tail.super_end dev.geometry dev.slot dev.copies_on in
+    omega (arith, on, dev.ends)
 
 pub returns-in-Err : goal.returns-in-Err
 returns-in-Err g c =
