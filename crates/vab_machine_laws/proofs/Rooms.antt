@@ -35,6 +35,7 @@ use Rattle.vab_edit.proofs.NamedLaws.{base_eq}
 use Rattle.vab_edit.proofs.PlanLaws.{map_among, map_map}
 use Rattle.vab_flash.proofs.SourceLaws.{full_or}
 use Rattle.vab_targets.specs.Sectors.{HasWholeSectors}
+use Rattle.vab_targets.proofs.EndLaws.{whole_front}
 use Rattle.vab_targets.proofs.Sectors.{blocks_long}
 use Rattle.vab_targets.proofs.Installed.{IsInstalled}
 use Rattle.vab_machine_laws.proofs.Sources.{HasSource}
@@ -118,9 +119,8 @@ module _
   long p c =
       let on = (All-contains (IsPart h.super_end) (parts_of source h.l) (part_on at p) h.parts.each
       (in_map (part_on at) own p c)).on_disk in
-      let inside : HasWholeSectors h.super_end image =
-      λ s below. whole s (omega (arith, below, h.ends)) in
-      let bytes = blocks_long h.super_end image (sectors_of at p.blocks) inside on in
+      let bytes = blocks_long h.super_end image (sectors_of at p.blocks)
+      (whole_front h.super_end size image h.ends whole) on in
       omega (arith, bytes, length-sectors_of at p.blocks)
 
   of_source : (p : Part) → Contains own p → is_of_slot source p.name ≡ true

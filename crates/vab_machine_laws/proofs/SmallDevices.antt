@@ -30,6 +30,7 @@ use Rattle.vab_machine.specs.Small.{IsSmallSlot, IsSmallImage, IsSmallEntry}
 use Rattle.vab_machine.specs.Small.{IsSmallPhase, IsSmallOver, IsSmallOverlay}
 use Rattle.vab_merging.proofs.CountLaws.{few_of}
 use Rattle.vab_targets.specs.Sectors.{HasWholeSectors}
+use Rattle.vab_targets.proofs.EndLaws.{whole_front}
 use Rattle.vab_targets.proofs.Sectors.{blocks_long}
 use Rattle.vab_machine_laws.specs.Sizes.{DevicesAreSmall}
 
@@ -198,8 +199,7 @@ pub devices_small : DevicesAreSmall
 unfolding state_on
 devices_small size image d small whole is =
     let last : ℕ = d.tail.super_end in
-    let inside : HasWholeSectors last image =
-    λ s below. whole s (omega (arith, below, is.ends)) in
+    let inside = whole_front last size image is.ends whole in
     let low : last ≤ 2 ^ 55 = omega (arith, small, is.ends) in
     record {
       a = slot_small last image inside d.a is.parts_a;

@@ -43,7 +43,7 @@ use Rattle.vab_device.proofs.StayLaws.{one_of}
 use Rattle.vab_edit.proofs.InstallingLaws.{read_at, two_tables}
 use Rattle.vab_physical.specs.declared.tail.Tail.{Tail}
 use Rattle.vab_targets.specs.Sectors.{HasWholeSectors}
-use Rattle.vab_targets.proofs.EndLaws.{EndsOn, tail_ends, whole_super}
+use Rattle.vab_targets.proofs.EndLaws.{EndsOn, tail_ends, whole_front}
 use Rattle.vab_targets.proofs.Sectors.{table_rules, IsRead}
 use Rattle.vab_targets.proofs.Installed.{IsReadAs, none_named, installing_of}
 use Rattle.vab_targets.proofs.PlainIdle.{plain_idle}
@@ -111,7 +111,7 @@ module _
       tail_ends base.physical size image tail (leb-true 4120 size reads.enough) reads.tail
 
   inside : HasWholeSectors tail.super_end image
-  inside = whole_super size image tail ending.1 whole
+  inside = whole_front tail.super_end size image ending.1 whole
 
   from_at : (k : ℕ)
       → k < 2
@@ -244,7 +244,7 @@ module _
       tail_ends base.physical size image tail (leb-true 4120 size reads.enough) reads.tail
 
   within : HasWholeSectors tail.super_end image
-  within = whole_super size image tail ended.1 whole
+  within = whole_front tail.super_end size image ended.1 whole
 
   source_at : (k : ℕ)
       → k < 2

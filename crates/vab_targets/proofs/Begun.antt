@@ -1,5 +1,5 @@
 -- A begin that is done: the source's images are kept.
-use Rattle.std.proofs.Common.{◌≡◌, ◌∙◌, inl, inr, ℕ, zero, suc, ◌/◌, ◌≤◌, ◌<◌, Bool}
+use Rattle.std.proofs.Common.{◌≡◌, ◌∙◌, inl, inr, ℕ, zero, suc, ◌/◌, ◌<◌, Bool}
 use Rattle.std.proofs.Common.{true, false, not, eqb, List, [], ◌∷◌, ◌++◌, length, Ok, refl, sym}
 use Rattle.std.proofs.Common.{ap, subst, arith}
 use Rattle.std.specs.Prelude.{Option, Some, None, Contains, map, bit_and}
@@ -18,7 +18,7 @@ use Rattle.vab_marks.specs.declared.status.PartStatus.{PartStatus}
 use Rattle.vab_tables.specs.declared.table.Table.{Table}
 use Rattle.vab_geometry.specs.declared.geometry.Geometry.{Geometry}
 use Rattle.vab_physical.specs.declared.tail.Tail.{Tail}
-use Rattle.vab_targets.proofs.EndLaws.{EndsOn, tail_ends, whole_super}
+use Rattle.vab_targets.proofs.EndLaws.{EndsOn, tail_ends, whole_front}
 use Rattle.vab_names.specs.Names.{is_of_slot, in_slot, store_of, default_name, most_partitions}
 use Rattle.vab_names.proofs.NameCases.{ne_name, default_not_own}
 use Rattle.vab_layout.specs.declared.layout.Part.{Part}
@@ -336,7 +336,7 @@ module _
       tail_ends base.physical size image tail (leb-true 4120 size reads.enough) reads.tail
 
   inside : HasWholeSectors tail.super_end image
-  inside = whole_super size image tail ends.1 whole
+  inside = whole_front tail.super_end size image ends.1 whole
 
   from_at : (k : ℕ)
       → k < 2

@@ -1,7 +1,7 @@
 -- Where `super` ends: on the disk, with as many sectors in front of it as a device has.
 use Rattle.std.proofs.Common.{◌≡◌, ℕ, ◌≤◌, true, false, Result, Ok, Err, refl, subst, arith}
 use Rattle.std.specs.Prelude.{Bool, Option, Some, None}
-use Rattle.vab_disk.specs.Disk.{Image, IsSector}
+use Rattle.vab_disk.specs.Disk.{Image}
 use Rattle.vab_marks.specs.declared.physical.PhysicalSizes.{PhysicalSizes}
 use Rattle.vab_marks.specs.declared.sector.MarkFault.{MarkFault}
 use Rattle.vab_marks.specs.Physical.{physical_of}
@@ -48,9 +48,9 @@ tail_ends false size image tail enough is =
     subst (EndsOn size) same (enough, omega arith)
 tail_ends true size image tail enough is = by_sizes size (physical_of (image 2113)) tail is
 
--- the sectors in front of it are whole, where those of the disk are
-pub whole_super : (size : ℕ) (image : Image) (tail : Tail)
-    → tail.super_end ≤ size
+-- the sectors in front of one are whole, where those of the disk are
+pub whole_front : (end size : ℕ) (image : Image)
+    → end ≤ size
     → HasWholeSectors size image
-    → HasWholeSectors tail.super_end image
-whole_super size image tail ends whole s below = whole s (omega (arith, below, ends))
+    → HasWholeSectors end image
+whole_front end size image ends whole s below = whole s (omega (arith, below, ends))

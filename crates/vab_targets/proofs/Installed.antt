@@ -1,5 +1,5 @@
 -- What a disk says where an update is installed: its tables, and that its plan is the target's.
-use Rattle.std.proofs.Common.{◌≡◌, ◌∙◌, inl, inr, ℕ, zero, suc, ◌+◌, ◌≤◌, ◌<◌, Bool, true, false}
+use Rattle.std.proofs.Common.{◌≡◌, ◌∙◌, inl, inr, ℕ, zero, suc, ◌+◌, ◌<◌, Bool, true, false}
 use Rattle.std.proofs.Common.{◌&&◌, List, [], ◌∷◌, Ok, refl, sym, ap, subst, arith}
 use Rattle.std.specs.Prelude.{Option, Some, None, map, option_map, Contains}
 use Rattle.std.specs.Str.{bytes_eq}
@@ -14,7 +14,7 @@ use Rattle.vab_tables.specs.declared.table.Table.{Table}
 use Rattle.vab_tables.specs.Rules.{KeepsRules}
 use Rattle.vab_geometry.specs.declared.geometry.Geometry.{Geometry}
 use Rattle.vab_physical.specs.declared.tail.Tail.{Tail}
-use Rattle.vab_targets.proofs.EndLaws.{EndsOn, tail_ends, whole_super}
+use Rattle.vab_targets.proofs.EndLaws.{EndsOn, tail_ends, whole_front}
 use Rattle.vab_names.specs.Names.{is_of_slot, base_of, store_of, most_partitions}
 use Rattle.vab_names.proofs.NameCases.{same_name}
 use Rattle.vab_layout.specs.declared.layout.Part.{Part as PartOfLayout}
@@ -221,7 +221,7 @@ module _
       tail_ends base.physical size image tail (leb-true 4120 size reads.enough) reads.tail
 
   inside : HasWholeSectors tail.super_end image
-  inside = whole_super size image tail ends.1 whole
+  inside = whole_front tail.super_end size image ends.1 whole
 
   -- ---- the tables' places
 
